@@ -2,7 +2,7 @@
 
 ghost use Rattle.std.specs.Prelude.{◌≡◌, ◌≤◌, None, false};
 ghost use Rattle.cxl_shell.specs.Devices.{devices};
-ghost use Rattle.cxl_commands.specs.Form.{OfTable, OfWords, table_file, runs_session, reads_script, IsRangedForm};
+ghost use Rattle.cxl_commands.specs.Form.{table_file, runs_session, reads_script, IsRangedForm};
 ghost use Rattle.cxl_commands.specs.Outside.{outside};
 ghost use Rattle.cxl_commands.specs.Plain.{plain};
 ghost use Rattle.cxl_shell.specs.Run.{IsRun};

@@ -9,7 +9,6 @@ ghost use Rattle.cxl_commands.specs.Form.{own_files, table_file, topology_file, 
 ghost use Rattle.cxl_commands.specs.Readings.{IsTreeFile, IsFileOfImage, KnowsTable, KnowsTree};
 ghost use Rattle.cxl_enc.specs.Limits.{file_limit};
 ghost use Rattle.cxl_image.specs.File.{HasImage};
-ghost use Rattle.cxl_image.specs.Images.{IsImage, HasCapsOf};
 ghost use Rattle.cxl_image.specs.declared.fault.ImageFault.{ImageFault};
 ghost use Rattle.cxl_inputs.specs.File.{AsksForSome, HasFailedFetch};
 ghost use Rattle.cxl_inputs.specs.Image.{IsFaultyImage, IsFaultyImageFile};
@@ -18,9 +17,7 @@ ghost use Rattle.cxl_inputs.specs.Topology.{IsFaultyTree, IsFaultyTreeFile, HasT
 ghost use Rattle.cxl_io.specs.Fetch.{AsksFor, IsTooLarge};
 ghost use Rattle.cxl_io.specs.Told.{Absent, Bytes};
 ghost use Rattle.cxl_shell.specs.Run.{EachRun};
-ghost use Rattle.cxl_topo.specs.Faults.{IsTree};
 ghost use Rattle.cxl_topo.specs.Tree.{Tree};
-ghost use Rattle.cxl_topo.specs.declared.fault.TreeFault.TheVariants as trees;
 ghost use Rattle.cxl_topofile.specs.declared.fault.TopoFault.{TopoFault};
 
 use cxl_cedt::{CedtFault, one_reading};

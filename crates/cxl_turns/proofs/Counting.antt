@@ -52,14 +52,14 @@ pub record AreCounted (n : ℕ) (commands : List Command) (start session : Sessi
 pub none_counted : (commands : List Command) (session : SessionState) (regs : RegsState) (media : MediaState) (counts : Counts) → counts ≡ counts_of [] → AreCounted 0 commands session session regs regs media media counts
 none_counted commands session regs media counts none = record { each = λ m at. ([], gone_same m session regs media at, none) }
 
-pub one_counted : (n : ℕ) (commands : List Command) (command : Command) (start mid session : SessionState) (old now new : RegsState) (before between media : MediaState) (counts after : Counts)
+pub one_counted : (n : ℕ) (commands : List Command) (command : Command) (start mid session : SessionState) (old now new : RegsState) (before between media : MediaState) (counts after : Counts) (reply : Reply)
     → AreCounted n commands start mid old now before between counts → take (n + 1) commands ≡ take n commands ++ command ∷ []
-    → ForEachMachine mid now between (λ m. (turn : Turn) × HasGoneOn m (Ok command ∷ []) (turn ∷ []) session now new media × (after ≡ counted counts turn.reply))
+    → ForEachMachine mid now between (λ m. (turn : Turn) × HasGoneOn m (Ok command ∷ []) (turn ∷ []) session now new media × (after ≡ counted counts turn.reply) × (reply ≡ turn.reply))
     → AreCounted (n + 1) commands start session old new before media after
-one_counted n commands command start mid session old now new before between media counts after so_far grows one = record {
+one_counted n commands command start mid session old now new before between media counts after reply so_far grows one = record {
   each = λ m at.
       let (turns, gone, is) = so_far.each m at in
-      let (turn, more, counts_is) = one (machine_after m turns) gone.at in (
+      let (turn, more, counts_is, told) = one (machine_after m turns) gone.at in (
         turns ++ turn ∷ [],
         subst (λ asked. HasGoneOn m asked (turns ++ turn ∷ []) session old new media)
             (sym (ap asked_of grows ∙ map-append (λ command. Ok command) (take n commands) (command ∷ [])))

@@ -139,6 +139,16 @@ module _ (passed : List (List ℕ)) (start before after : SourceState) (old new 
   fault_rose fault (inl none) (stopped stop some same source is) = absurd (cc)
   fault_rose fault (inr end) (stopped stop some same source is) = absurd (cc)
 
+  -- it had not come to its end before
+  pub fault_going : answer ≡ Fault → GoesOnOrEnds old → IsNext old new before after answer → old.stop ≡ None
+  fault_going fault (inl none) is = none
+  fault_going fault (inr end) (ended taken next takes first none is) = takes.going
+  fault_going fault (inr end) (last taken takes unbroken some at few stop is) = takes.going
+  fault_going fault (inr end) (at_end taken takes none at few stop is) = takes.going
+  fault_going fault (inr end) (fails taken takes unbroken rose few stop is) = takes.going
+  fault_going fault (inr end) (too_much taken takes unbroken over stop is) = takes.going
+  fault_going fault (inr end) (stopped stop some same source is) = absurd (cc)
+
   -- what a reader may still pass on falls with each line
   pub falls : IsLine → HasRead passed start old before → IsNext old new before after answer → still new < still old
   falls line read (ended taken next takes first none is) =

@@ -1,5 +1,5 @@
 -- The lines of a script that were carried out so far, one more of them, and how they end.
-use Rattle.std.proofs.Common.{◌≡◌, ◌≢◌, ℕ, ◌<◌, ◌≤◌, ◌⊎◌, Result, Ok, Err, List, [], ◌∷◌, ◌++◌, length, take, refl, sym, ap, subst, ◌∙◌, inl, inr, arith, true, if◌then◌else◌}
+use Rattle.std.proofs.Common.{◌≡◌, ◌≢◌, ℕ, ◌<◌, ◌≤◌, ◌⊎◌, None, Result, Ok, Err, List, [], ◌∷◌, ◌++◌, length, take, refl, sym, ap, subst, ◌∙◌, inl, inr, arith, true, if◌then◌else◌}
 use Rattle.std.specs.Prelude.{OnOk}
 use Rattle.std.proofs.lemmas.Bool.{lt-ltb}
 use Rattle.std.proofs.lemmas.List.{append-nil}
@@ -34,7 +34,7 @@ use Rattle.cxl_turns.specs.declared.stops.LineStop.TheVariants as stops
 use Rattle.cxl_turns.specs.Going.{HasGoneOn}
 use Rattle.cxl_turns.specs.Endings.{StopsReading, IsCutBehind, EndsLines, read_out, reply_cut, runs_out}
 use Rattle.cxl_turns.specs.inner.CarriedOut.{IsAnswered, IsCutOff, IsLeft}
-use Rattle.cxl_turns.proofs.FirstLines.{GoesOnOrEnds, first_lines, first_but_last, no_first_lines, goes_on_or_ends, fault_rose}
+use Rattle.cxl_turns.proofs.FirstLines.{GoesOnOrEnds, first_lines, first_but_last, no_first_lines, goes_on_or_ends, fault_rose, fault_going}
 use Rattle.cxl_turns.proofs.Going.{nodes_after, text_both, gone_same, gone_still, gone_both}
 use Rattle.cxl_turns.proofs.CarriedOut.{answered_none, takes_none}
 
@@ -304,15 +304,21 @@ module _ (reader next : Reader) (start now : Stage) (after : SourceState) (run :
   pub run_done : LeavesCount now.script.counts_failures_alone now.script.faults after.faults → IsNext reader next now.script after readers.End → End start later endings.Done
   run_done left is = ends_so endings.Done (stops_at readers.End (inl refl) is) (λ _ only. left (run.alone ∙ only) ∙ run.left only)
 
-  pub run_fails : IsNext reader next now.script after readers.Fault → End start later endings.ReadFault
-  run_fails is =
-      ends_so endings.ReadFault (stops_at readers.Fault (inr (inl refl)) is, rose) (λ e. absurd (cc))
+  pub run_fails : IsNext reader next now.script after readers.Fault
+      → (reader.stop ≡ None → CountsExactly 1 now.script.counts_failures_alone now.script.faults after.faults) → End start later endings.ReadFault
+  run_fails is once =
+      ends_so endings.ReadFault (stops_at readers.Fault (inr (inl refl)) is, rose, counted) (λ e. absurd (cc))
     where
       rose : Rose start.script.faults after.faults
       rose =
           let here = fault_rose run.passed start.script now.script after reader next readers.Fault refl run.goes is in
           let so_far = run.source in
           omega (arith, here, so_far)
+
+      counted : CountsExactly 1 start.script.counts_failures_alone start.script.faults after.faults
+      counted only =
+          let going = fault_going run.passed start.script now.script after reader next readers.Fault refl run.goes is in
+          subst (λ n. CountsExactly 1 true n after.faults) (run.left only) (λ _. once going (run.alone ∙ only)) refl
 
   pub run_too_much : IsNext reader next now.script after readers.TooMuch → End start later endings.TooMuch
   run_too_much is = ends_so endings.TooMuch (stops_at readers.TooMuch (inr (inr refl)) is) (λ e. absurd (cc))

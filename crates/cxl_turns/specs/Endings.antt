@@ -19,10 +19,12 @@ pub record AreFirstLines (lines : List (List ℕ)) (before after : SourceState) 
   pub given : GivesFront before after taken
   pub first : IfSome after.left (λ left. (rest : List (List ℕ)) × (lines_of (taken ++ left) ≡ lines ++ rest))
 
--- reading came to its end: these are all lines, those that ended before the source failed, or within the limit
+-- reading came to its end: these are all lines, those that ended before the source failed, or within the limit; and where the source
+-- counts failures alone, just one read failed
 abbrev pub StopsReading : Ending → List (List ℕ) → SourceState → SourceState → Type 0
 StopsReading Done lines before after = HasStopped readers.End lines before after
-StopsReading ReadFault lines before after = HasStopped readers.Fault lines before after × Rose before.faults after.faults
+StopsReading ReadFault lines before after =
+    HasStopped readers.Fault lines before after × Rose before.faults after.faults × CountsExactly 1 before.counts_failures_alone before.faults after.faults
 StopsReading TooMuch lines before after = HasStopped readers.TooMuch lines before after
 StopsReading WriteFault lines before after = ⊥
 StopsReading Memory lines before after = ⊥

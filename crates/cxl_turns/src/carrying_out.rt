@@ -1,6 +1,6 @@
 //! One line of a script, carried out.
 
-ghost use Rattle.std.specs.Prelude.{◌≡◌, ◌≤◌, ◌∷◌, [], Ok, Err, List, OnOk};
+ghost use Rattle.std.specs.Prelude.{◌≡◌, ◌≤◌, ◌∷◌, [], Ok, Err, OnOk};
 ghost use Rattle.cxl_bus.specs.RegsState.{RegsState};
 ghost use Rattle.cxl_media.specs.MediaState.{MediaState};
 ghost use Rattle.cxl_script.specs.Grammar.{IsRanged};

@@ -1,6 +1,6 @@
 //! What is counted of the replies to a list of commands.
 
-ghost use Rattle.std.specs.Prelude.{◌≡◌, ℕ, ◌+◌, ◌*◌, ◌-◌, ◌^◌, ◌<◌, ◌≤◌, length, sum};
+ghost use Rattle.std.specs.Prelude.{◌≡◌, ℕ, ◌+◌, ◌-◌, ◌^◌, ◌<◌, ◌≤◌, length, sum};
 ghost use Rattle.cxl_script.specs.Grammar.{access_limit};
 ghost use Rattle.cxl_turns.specs.Counts.{counted, AreWithin};
 ghost use Rattle.cxl_turns.specs.inner.Counted.{LoadsFew};

@@ -1,6 +1,6 @@
 //! The lines of a script, carried out one after the other.
 
-ghost use Rattle.std.specs.Prelude.{◌≡◌, ◌≤◌, List};
+ghost use Rattle.std.specs.Prelude.{◌≤◌, List};
 ghost use Rattle.cxl_machine.specs.Scripts.{Asked, Turn};
 ghost use Rattle.cxl_session.specs.Standing.{Stands, ForEachMachine};
 ghost use Rattle.cxl_turns.specs.Endings.{EndsLines};

@@ -2,7 +2,6 @@
 
 ghost use Rattle.std.specs.Prelude.{◌≡◌, ◌≢◌, ℕ, ◌≤◌, Ok, Err, List};
 ghost use Rattle.cxl_check.specs.declared.fault.Breach.{Breach};
-ghost use Rattle.cxl_machine.specs.Machine.{Machine};
 ghost use Rattle.cxl_machine.specs.Scripts.{Asked, Turn};
 ghost use Rattle.cxl_model.specs.Accepted.{IsAccepted};
 ghost use Rattle.cxl_model.specs.Listed.{AreRegionsByBase};

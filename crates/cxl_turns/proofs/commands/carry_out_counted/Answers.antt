@@ -13,4 +13,4 @@ count-requires-clause-loads g c =
 pub returns-clause-taken : goal.returns-clause-taken
 returns-clause-taken g c = λ m at.
     let one = c.in_ok-act_into.ensures.answer m at in
-    (one.0, gone_one m _ _ _ _ (Ok c.args.command.now) one.0 c.act_into.new.reply one.1 one.2, c.count.ensures.counted ∙ ap (counted c.args.counts.now) one.2.told)
+    (one.0, gone_one m _ _ _ _ (Ok c.args.command.now) one.0 c.act_into.new.reply one.1 one.2, c.count.ensures.counted ∙ ap (counted c.args.counts.now) one.2.told, one.2.told)

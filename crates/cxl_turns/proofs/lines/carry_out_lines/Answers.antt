@@ -37,7 +37,7 @@ returns-in-End-clause-ends g c =
     run_done c.lines.reader c.next.new.self _ _ (g.S.Source.state c.next.new.source) c.lines.invariant (c.next.ensures.unswallowed (λ e. let is = c.in-End.is in absurd (cc))) c.in-End.ensures.next
 
 pub returns-in-Fault-clause-ends : goal.returns-in-Fault-clause-ends
-returns-in-Fault-clause-ends g c = run_fails c.lines.reader c.next.new.self _ _ (g.S.Source.state c.next.new.source) c.lines.invariant c.in-Fault.ensures.next
+returns-in-Fault-clause-ends g c = run_fails c.lines.reader c.next.new.self _ _ (g.S.Source.state c.next.new.source) c.lines.invariant c.in-Fault.ensures.next (c.in-Fault.ensures.counted refl)
 
 pub returns-in-TooMuch-clause-ends : goal.returns-in-TooMuch-clause-ends
 returns-in-TooMuch-clause-ends g c = run_too_much c.lines.reader c.next.new.self _ _ (g.S.Source.state c.next.new.source) c.lines.invariant c.in-TooMuch.ensures.next

@@ -25,7 +25,7 @@ pub returns-clause-done : goal.returns-clause-done
 returns-clause-done c = read_out endings.Done lines refl (script, refl, omega arith, refl, refl) refl refl (λ done alone. refl) (λ alone. refl)
 
 fails : StopsReading endings.ReadFault lines (source script 0) (source [] 1)
-fails = ((script, refl, omega arith, refl), omega arith)
+fails = ((script, refl, omega arith, refl), omega arith, λ alone. refl)
 
 pub returns-clause-read_fault : goal.returns-clause-read_fault
 returns-clause-read_fault c =

@@ -44,7 +44,8 @@ loop-k-preserved g c = record {
   each =
       one_counted c.loop-k.k (made_commands c.args.n) c.make_command.new.command c.args.session.now c.loop-k.session c.carry_out_counted.new.session
       (g.R.Regs.state c.args.regs.now) (g.R.Regs.state c.loop-k.regs) (g.R.Regs.state c.carry_out_counted.new.regs) (g.M.Media.state c.args.media.now)
-      (g.M.Media.state c.loop-k.media) (g.M.Media.state c.carry_out_counted.new.media) c.loop-k.counts c.carry_out_counted.new.counts c.loop-k.invariant.each
+      (g.M.Media.state c.loop-k.media) (g.M.Media.state c.carry_out_counted.new.media) c.loop-k.counts c.carry_out_counted.new.counts c.carry_out_counted.new.reply
+      c.loop-k.invariant.each
       (take_next (made_commands c.args.n) c.loop-k.k c.make_command.new.command c.in_ok-make_command.ensures.ok) c.in_ok-carry_out_counted.ensures.taken;
   within = c.in_ok-carry_out_counted.ensures.within c.loop-k.k c.loop-k.invariant.within;
   bus = (let so_far = c.loop-k.invariant.bus in let more = c.in_ok-carry_out_counted.ensures.bus in omega (arith, so_far, more));
