@@ -6,6 +6,6 @@ mod parts;
 mod putting;
 mod upward;
 
-pub use parts::{DeviceByte, bytes_lie_in_pieces, device_byte, first_part, load_bytes};
+pub use parts::{DeviceByte, bytes_lie_in_pieces, device_byte, first_part, load_bytes, read_part};
 pub use putting::{put_one, put_two};
 pub use upward::carried_address;

@@ -114,7 +114,7 @@ fn read<M: Media>(media: &M, found: &Found, weave: &Weave, h: u64, into: &mut [u
 }
 
 /// Reads bytes of a region that lie in one of its pieces.
-fn read_part<M: Media>(media: &M, found: &Found, weave: &Weave, h: u64, into: &mut [u8])
+pub fn read_part<M: Media>(media: &M, found: &Found, weave: &Weave, h: u64, into: &mut [u8])
     requires region { IsWovenSomewhere found.now weave.now }
     requires from { found.now.base ≤ h }
     requires ends { h + length into.old ≤ found.now.base + found.now.size }

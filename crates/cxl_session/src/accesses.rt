@@ -21,7 +21,7 @@ ghost use Rattle.cxl_session.specs.inner.Places.{HasNoneOf};
 
 use crate::endpoints::endpoints_by_slot;
 use crate::session::Session;
-use cxl_bytes::{bytes_lie_in_pieces, carried_address, device_byte, first_part, load_bytes};
+use cxl_bytes::{carried_address, first_part, load_bytes, read_part};
 use cxl_deal::{Weave, deal};
 use cxl_enc::{FixedList, Memory, Name};
 use cxl_machine::live_regions_stay;
@@ -246,23 +246,8 @@ fn refill<M: Media>(media: &M, found: &Found, weave: &Weave, load: Load, bytes: 
 {
     let mut room = [0; 256];
     let part = &mut room[..load.len as usize];
-    read_piece(media, found, weave, load.h, part);
+    read_part(media, found, weave, load.h, part);
     bytes.replace_all(part);
-}
-
-/// Reads bytes of one of a region's pieces.
-fn read_piece<M: Media>(media: &M, found: &Found, weave: &Weave, h: u64, into: &mut [u8])
-    requires region { IsWovenSomewhere found.now weave.now }
-    requires from { found.now.base ≤ h }
-    requires ends { h + length into.old ≤ found.now.base + found.now.size }
-    requires piece { IsInOneBlock (h - found.now.base) (length into.old) }
-    ensures { (s : System) (w : WindowFields) (contents : Contents)
-        → IsWovenIn s w found.now weave.now → HasPieces found.now w contents (M.state media.now).blocks
-        → into.new ≡ bytes_at contents (h - found.now.base) (length into.old) }
-{
-    bytes_lie_in_pieces();
-    let byte = device_byte(found, weave, h);
-    media.get(byte.ep, byte.dpa, into);
 }
 
 /// What a host byte of the region of this name is answered.

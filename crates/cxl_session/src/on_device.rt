@@ -90,9 +90,9 @@ fn is_named(records: &[Entry], from: u128, end: u128) -> bool
 }
 
 /// Whether a record does.
-fn names_byte(record: &Entry, from: u128, end: u128) -> bool
-    ensures { result ≡ names_byte from end record.now }
+fn names_byte(entry: &Entry, from: u128, end: u128) -> bool
+    ensures { result ≡ names_byte from end entry.now }
 {
-    let first = u128::from(record.dpa);
-    first < end && from < first + 64 * u128::from(record.units)
+    let first = u128::from(entry.dpa);
+    first < end && from < first + 64 * u128::from(entry.units)
 }
