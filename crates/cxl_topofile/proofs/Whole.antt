@@ -8,7 +8,7 @@ use Rattle.toml.specs.Data.{Members}
 use Rattle.cxl_topofile.specs.declared.fault.Wrong.{Wrong}
 use Rattle.cxl_topofile.specs.declared.fault.Cause.{Cause}
 use Rattle.cxl_topofile.specs.declared.fault.Cause.TheVariants as causes
-use Rattle.cxl_topofile.specs.declared.fault.Place.{Place}
+use Rattle.cxl_topofile.specs.declared.fault.TableKey.{TableKey}
 use Rattle.cxl_topofile.specs.declared.fault.Section.{Section}
 use Rattle.cxl_topofile.specs.declared.fault.Section.TheVariants as sections
 use Rattle.cxl_topofile.specs.declared.fault.TopoFault.{TopoFault}
@@ -33,7 +33,7 @@ abbrev FailsOfKey : {A : Type 0} → Result A TopoFault → Type 0
 FailsOfKey (Ok x) = Unit {0}
 FailsOfKey (Err fault) = IsOfKey fault
 
-cause_of_key : (cause : Cause) (place : Place) → IsOfKey (by_cause cause place)
+cause_of_key : (cause : Cause) (place : TableKey) → IsOfKey (by_cause cause place)
 cause_of_key causes.Missing place = tt
 cause_of_key causes.Kind place = tt
 cause_of_key causes.Range place = tt

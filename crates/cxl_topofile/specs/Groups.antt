@@ -10,7 +10,7 @@ use Rattle.cxl_topofile.specs.declared.fault.Cause.{Cause}
 use Rattle.cxl_topofile.specs.declared.fault.Cause.TheVariants as causes
 use Rattle.cxl_topofile.specs.declared.fault.Section.{Section}
 use Rattle.cxl_topofile.specs.declared.fault.Section.TheVariants as sections
-use Rattle.cxl_topofile.specs.declared.fault.Place.{Place}
+use Rattle.cxl_topofile.specs.declared.fault.TableKey.{TableKey}
 use Rattle.cxl_topofile.specs.declared.fault.TopoFault.{TopoFault}
 use Rattle.cxl_topofile.specs.declared.fault.TopoFault.TheVariants as faults
 use Rattle.cxl_topofile.specs.declared.draft.Draft.{Draft}
@@ -23,7 +23,7 @@ use Rattle.cxl_topofile.specs.Drafts.{known_in, bridge_of, switch_of, endpoint_o
 -- ---- faults with their places
 
 -- the fault of its cause at this place
-abbrev pub by_cause : Cause → Place → TopoFault
+abbrev pub by_cause : Cause → TableKey → TopoFault
 by_cause causes.Missing place = faults.Key place
 by_cause causes.Kind place = faults.Kind place
 by_cause causes.Range place = faults.Range place

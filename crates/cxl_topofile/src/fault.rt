@@ -18,13 +18,13 @@ pub enum TopoFault {
     Toml,
     /// A key is missing and has no default, or it is none of its table's keys.
     #[error("a key is missing or unknown: {0}")]
-    Key(Place),
+    Key(TableKey),
     /// The value of a key is of another kind.
     #[error("a value is of the wrong kind: {0}")]
-    Kind(Place),
+    Kind(TableKey),
     /// The value of a key is out of its range.
     #[error("a value is out of range: {0}")]
-    Range(Place),
+    Range(TableKey),
     /// The nodes are no legal tree.
     #[error("the nodes are no legal tree: {0}")]
     Tree(TreeFault),
@@ -42,7 +42,7 @@ impl fmt::Debug for TopoFault {
 /// A key of a table: of the top table, where the index is 0, or of the bridge, switch or endpoint with
 /// this index among its kind.
 #[derive(Clone, Copy, PartialEq, Eq)]
-pub struct Place {
+pub struct TableKey {
     pub section: Section,
     pub index: u32,
     pub key: Key,
@@ -57,7 +57,7 @@ pub enum Section {
     Endpoint,
 }
 
-impl fmt::Display for Place {
+impl fmt::Display for TableKey {
     ghost use Rattle.std.specs.Prelude.{Some};
     ghost use Rattle.cxl_topofile.specs.Places.{place_text};
 
@@ -130,7 +130,7 @@ impl Wrong {
     pub(crate) fn at(self, section: Section, index: u32) -> TopoFault
         ensures { result ≡ fault_at section index self }
     {
-        let place = Place {
+        let place = TableKey {
             section,
             index,
             key: self.key,

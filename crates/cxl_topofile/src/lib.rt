@@ -13,7 +13,7 @@ mod sections;
 mod stated;
 mod value;
 
-pub use fault::{Place, Section, TopoFault};
+pub use fault::{Section, TableKey, TopoFault};
 pub use key::Key;
 pub use laws::one_topology_reading;
 pub use read::read_topo;

@@ -1,15 +1,12 @@
 -- The route of a slot's first byte, told by the slot's span and the region's own decoders.
-use Rattle.std.proofs.Common.{◌≡◌, ℕ, ◌+◌, ◌-◌, ◌*◌, ◌/◌, ◌<◌, ◌≤◌, true, List, take, drop, replicate, length, get_or, Some, refl, sym, ap, subst, ◌∙◌, arith}
+use Rattle.std.proofs.Common.{◌≡◌, ℕ, ◌+◌, ◌-◌, ◌*◌, ◌/◌, ◌<◌, ◌≤◌, List, take, drop, replicate, length, get_or, Some, refl, sym, ap, subst, ◌∙◌, arith}
 use Rattle.std.specs.Prelude.{slice_get}
 use Rattle.std.proofs.Math.Nat.{mul-pos}
 use Rattle.std.proofs.lemmas.Nat.{pow_pos}
-use Rattle.std.proofs.lemmas.Bool.{and_parts}
 use Rattle.std.proofs.lemmas.Option.{same_Some, slice_get-get_or, get_or_from_slice_get}
 use Rattle.cxl_enc.proofs.Options.{some_and}
 use Rattle.cxl_enc.proofs.Numbers.{some_first_factor}
 use Rattle.cxl_num.specs.Interleave.{chunk_size}
-use Rattle.cxl_topo.specs.Tree.{is_endpoint_at}
-use Rattle.cxl_topo.proofs.Trees.{endpoint_within}
 use Rattle.cxl_regs.specs.declared.reading.Range.{Range}
 use Rattle.cxl_window.specs.Fields.{WindowFields}
 use Rattle.cxl_window.specs.Position.{target_position}
@@ -18,8 +15,7 @@ use Rattle.cxl_model.specs.declared.found.Found.{Found}
 use Rattle.cxl_model.specs.declared.found.Place.{Place}
 use Rattle.cxl_model.specs.System.{System, IsSystem}
 use Rattle.cxl_model.specs.Chain.{Routing, Routed, Chain}
-use Rattle.cxl_model.specs.Counts.{is_endpoint_of}
-use Rattle.cxl_model.specs.Ranges.{serves, index_for}
+use Rattle.cxl_model.specs.Ranges.{index_for}
 use Rattle.cxl_model.specs.Regions.{region_range, IsRegionIn, weave_fields}
 use Rattle.cxl_model.specs.Bytes.{slot_length}
 use Rattle.cxl_model.specs.Dealing.{slot_steps, IsDealtRoute}
@@ -78,10 +74,6 @@ module _ (s : System) (w : WindowFields) (found : Found) (system : IsSystem s) (
         (dealt.base ∙ sym base)
         (let at = own.2.1 in let zero_off = first.1.at_start in omega (arith, at, zero_off, starts, dpa)) in
         record { first = h; is = first.1; chain = subst (λ (x : Routing). Chain s h (Routed x)) same all.1; zeros = zeros }
-
--- an endpoint of a range stands in the tree
-pub endpoint_inside : (s : System) (r : Range) (m : ℕ) → is_endpoint_of s r m ≡ true → m < length s.nodes
-endpoint_inside s r m is = endpoint_within s.nodes m (and_parts (is_endpoint_at s.nodes m) (serves s r m) is).0
 
 -- the place of a slot
 pub place_there : (spans items : List Place) (slot at : ℕ) (d : Place) → items ≡ spans → at ≡ slot → slot < length spans → slice_get spans slot ≡ Some (get_or items at d)

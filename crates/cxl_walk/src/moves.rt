@@ -19,7 +19,7 @@ use cxl_topo::{Capacity, Topo, capacity_at};
 
 /// A byte of an endpoint's device, with the decoder that leads to it and that decoder's first host address.
 #[derive(Clone, Copy)]
-pub(crate) struct DeviceByte {
+pub(crate) struct ReachedByte {
     pub(crate) endpoint: u32,
     pub(crate) decoder: u8,
     pub(crate) base: u64,
@@ -34,7 +34,7 @@ pub(crate) enum Next {
     /// A port's decoder sends it to a child.
     Steps(Step, u32),
     /// An endpoint's decoder sends it to a byte.
-    Arrives(DeviceByte),
+    Arrives(ReachedByte),
 }
 
 /// What a node does with an address.
@@ -88,7 +88,7 @@ fn decode(image: &Image, topo: &Topo, node: u32, h: u64) -> Result<Next, Miss>
 }
 
 /// The byte to which the decoder of an endpoint that holds the address sends it.
-fn arrive(block: &Block, capacity: &Capacity, node: u32, i: u8, h: u64) -> DeviceByte
+fn arrive(block: &Block, capacity: &Capacity, node: u32, i: u8, h: u64) -> ReachedByte
     requires small { capacity.now.ram + capacity.now.pmem ≤ address_limit }
     requires keeps { BlockKeeps block.now capacity.now.ram capacity.now.pmem }
     requires endpoint { block.now.endpoint ≡ true }
@@ -99,7 +99,7 @@ fn arrive(block: &Block, capacity: &Capacity, node: u32, i: u8, h: u64) -> Devic
     spans_lie_in_partitions();
     let d = block.decoder(i);
     let start = start_of(block, i);
-    DeviceByte {
+    ReachedByte {
         endpoint: node,
         decoder: i,
         base: d.base,

@@ -7,7 +7,7 @@ ghost use Rattle.cxl_model.specs.Chain.{Arrives};
 ghost use Rattle.cxl_walk.specs.Routes.{no_step};
 ghost use Rattle.cxl_walk.specs.inner.Calls.{Leads, Fails, reached};
 
-use crate::moves::{DeviceByte, Next, move_at};
+use crate::moves::{Next, ReachedByte, move_at};
 use cxl_image::Image;
 use cxl_model::{Miss, Step};
 use cxl_topo::{Topo, tree_laws};
@@ -23,7 +23,7 @@ const NO_STEP: Step = Step {
 pub(crate) struct Way {
     pub(crate) len: u8,
     pub(crate) steps: [Step; 5],
-    pub(crate) byte: DeviceByte,
+    pub(crate) byte: ReachedByte,
     ghost few: { len ≤ 5 },
 }
 

@@ -11,7 +11,7 @@ use Rattle.cxl_model.specs.declared.chain.Step.{Step}
 use Rattle.cxl_model.specs.declared.chain.Miss.{Miss}
 use Rattle.cxl_model.specs.Chain.{Arrival, Move, End, Moves, Walk}
 use Rattle.cxl_model.specs.Chain as chain
-use Rattle.cxl_walk.specs.declared.moves.DeviceByte.{DeviceByte}
+use Rattle.cxl_walk.specs.declared.moves.ReachedByte.{ReachedByte}
 use Rattle.cxl_walk.specs.declared.moves.Next.{Next}
 use Rattle.cxl_walk.specs.declared.moves.Next.TheVariants.{Forwards, Steps, Arrives}
 use Rattle.cxl_walk.specs.declared.target.Target.{Target}
@@ -20,11 +20,11 @@ use Rattle.cxl_model.specs.System.{system_of}
 -- ---- one node
 
 -- a device byte as an arrival there
-abbrev pub reached : DeviceByte → Arrival
+abbrev pub reached : ReachedByte → Arrival
 reached byte = record { endpoint = byte.endpoint; decoder = byte.decoder; base = byte.base; dpa = byte.dpa }
 
 -- the byte to which decoder i in the block of endpoint n sends an address
-abbrev pub byte_at : Registers → ℕ → ℕ → ℕ → Decoder → DeviceByte
+abbrev pub byte_at : Registers → ℕ → ℕ → ℕ → Decoder → ReachedByte
 byte_at block h n i d =
     record { endpoint = n; decoder = i; base = d.base; dpa = endpoint_place_of (span_start_of block.decoders i) d h }
 

@@ -10,11 +10,12 @@ use Rattle.cxl_model.specs.Ranges.{serves}
 use Rattle.cxl_model.specs.Regions.{region_range, weave_fields}
 use Rattle.cxl_model.specs.System.{System}
 use Rattle.cxl_model.proofs.RangeRules.{served}
+use Rattle.cxl_model.proofs.RangeServers.{endpoint_inside}
 use Rattle.cxl_walk.specs.declared.own.Own.{Own}
 use Rattle.cxl_walk.specs.Keeping.{IsOwnIn}
 use Rattle.cxl_walk.proofs.Keepings.{RouteLaws}
 use Rattle.cxl_walk.proofs.Slots.{own_found, own_index, own_there}
-use Rattle.cxl_walk.proofs.SlotRoutes.{HitLaws, slot_route_is, endpoint_inside, place_there}
+use Rattle.cxl_walk.proofs.SlotRoutes.{HitLaws, slot_route_is, place_there}
 use Rattle.cxl_walk.proofs.kept.slot_route.Goals as goal
 
 pub prove-unreachable-requires : goal.prove-unreachable-requires

@@ -10,7 +10,7 @@ use Rattle.cxl_model.specs.System.{System, system_of}
 use Rattle.cxl_walk.specs.declared.own.Own.{Own}
 use Rattle.cxl_walk.specs.inner.Marks.{MarksWays}
 use Rattle.cxl_walk.proofs.Marks.{WayLaws, own_marked}
-use Rattle.cxl_walk.proofs.SlotRoutes.{endpoint_inside}
+use Rattle.cxl_model.proofs.RangeServers.{endpoint_inside}
 use Rattle.cxl_walk.proofs.owned.own_in.Goals as goal
 
 pub marked_ways-requires : goal.marked_ways-requires
