@@ -2,6 +2,7 @@
 use Rattle.std.proofs.Common.{◌≡◌, ℕ, ◌+◌, ◌*◌, ◌<◌, List, [], ◌∷◌, ◌++◌, length, take, slice_index, codes, Result, Ok, Err, OnOk, ap, sym, ◌∙◌, append_assoc}
 use Rattle.std.proofs.lemmas.Grind.{flat_map-append}
 use Rattle.std.proofs.lemmas.List.{append-nil, take_more}
+use Rattle.cxl_enc.proofs.Lists.{appended}
 use Rattle.cxl_table.specs.declared.chbs.Chbs as chbs
 use Rattle.cxl_table.specs.declared.cedt.Head.{Head}
 use Rattle.cxl_table.specs.Fields.{CximsFields}
@@ -11,10 +12,6 @@ use Rattle.cxl_cedt.specs.Spelling.{number_bytes, numbers_bytes, frame, chbs_spe
 pub always : {T E : Type 0} (r : Result T E) (P : Type 0) → P → OnOk r P
 always (Ok done) P p = p
 always (Err e) P p = tt
-
--- a part behind another
-pub appended : (old middle new front part : List ℕ) → middle ≡ old ++ front → new ≡ middle ++ part → new ≡ old ++ (front ++ part)
-appended old middle new front part first second = second ∙ ap (λ (t : List ℕ). t ++ part) first ∙ append_assoc old front part
 
 -- the bytes of one number more of a list
 pub number_appended : (width : ℕ) (old middle new numbers : List ℕ) (i : ℕ) → i < length numbers → middle ≡ old ++ numbers_bytes width (take i numbers)

@@ -3,7 +3,7 @@
 ghost use Rattle.std.specs.Prelude.{◌≡◌, ◌≤◌, [], ◌∷◌, ◌++◌, false, OnOk};
 ghost use Rattle.cxl_table.specs.Records.{kind_of, is_kind_full, HasFewOfEach};
 
-use crate::layout::{CFMWS_KIND, CHBS_KIND, CXIMS_KIND, KIND_LIMIT};
+use crate::layout::{CXIMS_KIND, KIND_LIMIT};
 use cxl_enc::Memory;
 use cxl_table::{Other, Record, kind_of};
 use std::alloc::Global;

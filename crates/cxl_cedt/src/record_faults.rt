@@ -1,9 +1,9 @@
 //! The first fault of the record that stands at the front of a text.
 
-ghost use Rattle.std.specs.Prelude.{◌≡◌, ◌+◌, ◌≤◌, ◌<◌, nat_lt, if◌then◌else◌, true, length, Some, None};
+ghost use Rattle.std.specs.Prelude.{◌≡◌, ◌≤◌, nat_lt, if◌then◌else◌, length, Some, None};
 ghost use Rattle.cxl_table.specs.Layout.{frame_size};
 ghost use Rattle.std.specs.Bool.{OnFalse};
-ghost use Rattle.cxl_cedt.specs.Table.{kind_said, length_said, ways_said, is_cut, has_short_length, has_other_length, has_unknown_gran, record_fault};
+ghost use Rattle.cxl_cedt.specs.Table.{length_said, ways_said, is_cut, has_short_length, has_other_length, has_unknown_gran, record_fault};
 
 use crate::counted::CountedRecords;
 use crate::fault::CedtFault;

@@ -4,7 +4,6 @@ ghost use Rattle.std.specs.Prelude.{◌≡◌, ◌++◌, ◌∷◌, [], ◌≤�
 ghost use Rattle.std.specs.List.{flat_map};
 ghost use Rattle.cxl_enc.specs.Limits.{file_limit};
 ghost use Rattle.cxl_table.specs.CedtFields.{CedtFields};
-ghost use Rattle.cxl_table.specs.Records.{table_length};
 ghost use Rattle.cxl_cedt.specs.Table.{IsTableText, AreRecordTexts};
 ghost use Rattle.cxl_cedt.specs.Spelling.{number_bytes, frame, chbs_spelling, window_range, window_codes, cfmws_spelling, cxims_spelling, other_spelling, record_spelling, header, spelling_with, spelling};
 ghost use Rattle.cxl_cedt.specs.inner.Widths.{HeadFits, ChbsFits, CfmwsFits, CximsFits, OtherFits, RecordFits, HasText};

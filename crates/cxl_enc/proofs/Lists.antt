@@ -1,11 +1,12 @@
 -- Elements of a list: which are there, which pass a test, and a list with one of them set.
-use Rattle.std.proofs.Common.{◌≡◌, ℕ, zero, suc, ◌<◌, List, [], ◌∷◌, length, Some, refl, arith, subst, get_or, inl, inr, ◌⊎◌, ◌++◌, ◌≤◌, drop, ◌≢◌, ap, Bool, true, false, cond, sym, ◌∙◌, None, ◌||◌, reverse, ◌&&◌}
+use Rattle.std.proofs.Common.{◌≡◌, ℕ, zero, suc, ◌<◌, List, Option, [], ◌∷◌, length, Some, refl, arith, subst, get_or, inl, inr, ◌⊎◌, ◌++◌, ◌≤◌, drop, ◌≢◌, ap, Bool, true, false, cond, sym, ◌∙◌, None, ◌||◌, reverse, ◌&&◌, replicate, append_assoc}
 use Rattle.std.specs.Prelude.{slice_get, All, Contains, slice_set, find, position, nat_lt, filter, ◌==◌}
 use Rattle.std.proofs.lemmas.Option.{slice_get_within, get_or_from_slice_get, same_Some, none-some, slice_get-get_or}
 use Rattle.std.proofs.lemmas.List.Elements.{All-get_or}
 use Rattle.std.specs.List.{list_any, position_or_len}
 use Rattle.std.proofs.lemmas.Bool.{cases_lt, lt-ltb, cond-true, false≢true, cases_Bool, or_left, or_right, or_parts, eq-eqb, eqb-true}
 use Rattle.std.proofs.lemmas.List.Folds.{Any-from_list_any, find_at, list_any-append, list_any_at}
+use Rattle.std.proofs.lemmas.List.Quantifiers.{position-Some}
 use Rattle.std.proofs.lemmas.List.Sums.{fails_before_first, passes_at_first}
 use Rattle.std.proofs.lemmas.List.{reverse-append}
 
@@ -18,6 +19,10 @@ item (x ∷ xs) (suc i) lt = item xs i (omega arith)
 
 pub All-at : {X : Type 0} (P : X → Type 0) (xs : List X) (i : ℕ) (x : X) → slice_get xs i ≡ Some x → All P xs → P x
 All-at P xs i x at each = subst P (get_or_from_slice_get xs i x x at) (All-get_or P xs i x (slice_get_within xs i x at) each)
+
+pub All-one : {X : Type 0} (P : X → Type 0) (x : X) → P x → All P (x ∷ [])
+All-one P x holds zero d within = holds
+All-one P x holds (suc i) d within = absurd (omega arith)
 
 pub contains_at : {X : Type 0} (xs : List X) (k : ℕ) (x : X) → slice_get xs k ≡ Some x → Contains xs x
 contains_at xs k x there = (k, slice_get_within xs k x there, get_or_from_slice_get xs k x x there)
@@ -61,6 +66,17 @@ same_by_get (x ∷ xs) (y ∷ ys) same =
     let first : x ≡ y = same_Some x y (same zero) in
     let rest : xs ≡ ys = same_by_get xs ys (λ k. same (suc k)) in
     λ i. first i ∷ rest i
+
+-- a part behind another
+pub appended : (old middle new front part : List ℕ) → middle ≡ old ++ front → new ≡ middle ++ part → new ≡ old ++ (front ++ part)
+appended old middle new front part first second = second ∙ ap (λ (t : List ℕ). t ++ part) first ∙ append_assoc old front part
+
+-- each of some zeros is 0
+pub zeros_at : (n i : ℕ) → ◌≡◌ {A = ℕ} (get_or (replicate n 0) i 0) 0
+zeros_at zero zero = refl
+zeros_at zero (suc i) = refl
+zeros_at (suc n) zero = refl
+zeros_at (suc n) (suc i) = zeros_at n i
 
 -- ---- an element set
 
@@ -125,6 +141,15 @@ some_passes p (x ∷ xs) is =
           (suc rest.0, rest.1, rest.2, rest.3)
     ]
 
+pub position_none : {X : Type 0} (d : X) (p : X → Bool) (xs : List X) → list_any p xs ≡ false → position p xs ≡ None
+position_none d p xs none = go (position p xs) refl
+  where
+    go : (o : Option ℕ) → position p xs ≡ o → o ≡ None
+    go None is = refl
+    go (Some i) is =
+        let at = position-Some p xs i d is in
+        absurd (false≢true (sym none ∙ list_any_at p xs i d at.0 at.1))
+
 pub list_any-reverse : {X : Type 0} (p : X → Bool) (xs : List X) → list_any p (reverse xs) ≡ list_any p xs
 list_any-reverse p [] = refl
 list_any-reverse p (x ∷ xs) =
@@ -166,6 +191,15 @@ some_step false any x ys rest is = rest is
 pub some_filtered : {X : Type 0} (p : X → Bool) (xs : List X) → list_any p xs ≡ true → 0 < length (filter p xs)
 some_filtered p [] any = absurd (false≢true any)
 some_filtered p (x ∷ xs) any = some_step (p x) (list_any p xs) x (filter p xs) (some_filtered p xs) any
+
+-- no more pass than there are
+pub few_filtered : {X : Type 0} (p : X → Bool) (xs : List X) → length (filter p xs) ≤ length xs
+few_filtered p [] = omega arith
+few_filtered p (x ∷ xs) = go (few_filtered p xs) (p x)
+  where
+    go : length (filter p xs) ≤ length xs → (b : Bool) → length (cond b (x ∷ filter p xs) (filter p xs)) ≤ length (x ∷ xs)
+    go rest false = omega (arith, rest)
+    go rest true = omega (arith, rest)
 
 -- ---- numbers in a list
 

@@ -26,6 +26,10 @@ pub some_ways : (w : ℕ) → IsTrue (is_ways w) → 0 < w
 some_ways w known =
     each_ways (λ n. 0 < n) w known (omega arith) (omega arith) (omega arith) (omega arith) (omega arith) (omega arith) (omega arith) (omega arith)
 
+pub few_ways : (w : ℕ) → IsTrue (is_ways w) → w ≤ 16
+few_ways w known =
+    each_ways (λ n. n ≤ 16) w known (omega arith) (omega arith) (omega arith) (omega arith) (omega arith) (omega arith) (omega arith) (omega arith)
+
 -- each code below 11 stands for ways of the table, and the others count as one way
 abbrev has_known_ways : ℕ → Bool
 has_known_ways code = is_ways (unwrap_or (ways_of code) 1)

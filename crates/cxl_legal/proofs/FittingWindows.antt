@@ -26,11 +26,10 @@ use Rattle.cxl_model.specs.Regions.{region_range}
 use Rattle.cxl_model.specs.Plans.{with_rows, AgreesOnCode}
 use Rattle.cxl_model.proofs.Under.{under_top}
 use Rattle.cxl_model.proofs.RangeRules.{kept, rule_nine}
-use Rattle.cxl_model.proofs.RangeWindows.{has_window, rooted}
+use Rattle.cxl_model.proofs.RangeWindows.{has_window, rooted, targets}
 use Rattle.cxl_model.proofs.SpansKinds.{has_kind}
 use Rattle.cxl_legal.specs.Used.{is_used}
 use Rattle.cxl_legal.specs.Windows.{is_used_bridge, is_target, has_used_bridges, agrees_on_gran, FitsWindow}
-use Rattle.cxl_legal.proofs.FittingTargets.{targets}
 use Rattle.cxl_legal.proofs.FittingUsed.{lands_used, endpoint_is}
 use Rattle.cxl_legal.proofs.FittingEndpoints.{Legal, planned, first_requested}
 use Rattle.cxl_legal.proofs.FittingSelects.{all_select, all_have_ways}

@@ -1,6 +1,5 @@
 pub mod UsedNodes
 pub mod UsedPorts
-pub mod FittingTargets
 pub mod FittingRows
 pub mod FittingUsed
 pub mod AddedRanges

@@ -4,6 +4,7 @@ use Rattle.std.specs.Prelude.{slice_get, slice_set, find, position, option_map, 
 use Rattle.std.specs.Option.{option_map_or}
 use Rattle.std.proofs.lemmas.Bool.{cases_Bool, and_parts, and_from, cond-true, cond-false, false≢true}
 use Rattle.std.proofs.lemmas.List.Elements.{Contains-get_or}
+use Rattle.cxl_enc.proofs.Lists.{position_none}
 use Rattle.cxl_topo.specs.Tree.{forwards_at}
 use Rattle.cxl_regs.specs.declared.decoder.Decoder.{Decoder}
 use Rattle.cxl_regs.specs.Registers.{Registers, reset_decoder}
@@ -23,7 +24,7 @@ use Rattle.cxl_legal.proofs.RowsSystems.{HasBlock, block_of}
 use Rattle.cxl_legal.proofs.RowsRanges.{Lower, known_tree, new_range}
 use Rattle.cxl_legal.proofs.RowsUsed.{used_within, row_is, row_there, rows_apart}
 use Rattle.cxl_legal.proofs.FittingRows.{set_passes, get_fold_none, get_fold_some}
-use Rattle.cxl_legal.proofs.RowsFolds.{position_none, count_below}
+use Rattle.cxl_legal.proofs.RowsFolds.{count_below}
 
 module _ (lower : Lower) (s : System) (request : Request) (w : WindowFields) (base : ℕ) (fits : Fits s request w base) where
   abbrev pub rows : List Row

@@ -30,6 +30,7 @@ use Rattle.cxl_model.specs.Ranges.{serves, lies_within, window_for}
 use Rattle.cxl_model.specs.Rules.{lists, is_targeted}
 use Rattle.cxl_model.specs.Accepted.{IsAccepted, IsWhole}
 use Rattle.cxl_model.specs.Counts.{is_under}
+use Rattle.cxl_model.proofs.Outcomes.{RisingLaw}
 use Rattle.cxl_model.proofs.RangeRules.{block_keeps, served, reached}
 use Rattle.cxl_legal.specs.Used.{is_used}
 use Rattle.cxl_legal.specs.Windows.{is_used_bridge}
@@ -42,11 +43,6 @@ use Rattle.cxl_legal.proofs.RowsSystems.{block_of, decoder_within}
 
 abbrev pub CountedLaw : Type 0
 CountedLaw = (block : Registers) (ram pmem i : ℕ) (d : Decoder) → BlockKeeps block ram pmem → slice_get block.decoders i ≡ Some d → (d.committed ≡ true) ↔ (i < committed_count block.decoders)
-
-abbrev pub RisingLaw : Type 0
-RisingLaw =
-    (block : Registers) (ram pmem i j : ℕ) (d e : Decoder) → BlockKeeps block ram pmem → slice_get block.decoders i ≡ Some d → slice_get block.decoders j ≡ Some e
-    → i < j → e.committed ≡ true → d.base + d.size ≤ e.base
 
 abbrev pub OneWindowLaw : Type 0
 OneWindowLaw =

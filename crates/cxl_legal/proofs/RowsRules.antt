@@ -18,9 +18,10 @@ use Rattle.cxl_span.specs.Partitions.{lies_in}
 use Rattle.cxl_span.specs.Allotting.{cursor_of}
 use Rattle.cxl_span.specs.Rules.{breaks_rule, breaks_flags, breaks_commit_order, breaks_codes, breaks_select, breaks_size, breaks_base_order, breaks_capacity, size_unit}
 use Rattle.cxl_span.specs.Breaches.{breaks, BlockKeeps}
+use Rattle.cxl_span.proofs.Cursors.{taken_to_cursor}
 use Rattle.cxl_span.proofs.RulesBroken.{at_decoder, at_none, kept_at}
 use Rattle.cxl_legal.proofs.RowsRanges.{CountedLaw}
-use Rattle.cxl_legal.proofs.RowsSpans.{HasLast, cases_last, taken_to_cursor}
+use Rattle.cxl_legal.proofs.RowsSpans.{HasLast, cases_last}
 
 -- ---- a rule at a decoder
 

@@ -1,11 +1,11 @@
 -- Where the next span of an endpoint stands, and that it is a multiple of 256 MiB within the kind's partition.
-use Rattle.std.proofs.Common.{◌≡◌, ℕ, ◌+◌, ◌-◌, ◌%◌, ◌^◌, ◌<◌, ◌≤◌, ◌⊎◌, true, ◌&&◌, ◌||◌, List, length, get_or, take, Option, Some, None, max, sum_by, refl, sym, ap, ◌∙◌, inl, inr, arith}
+use Rattle.std.proofs.Common.{◌≡◌, ℕ, ◌+◌, ◌-◌, ◌%◌, ◌^◌, ◌<◌, ◌≤◌, ◌⊎◌, true, ◌&&◌, ◌||◌, List, length, get_or, Option, Some, None, max, refl, ap, ◌∙◌, inl, inr, arith}
 use Rattle.std.specs.Prelude.{slice_get, nat_le, ◌==◌}
 use Rattle.std.specs.Option.{option_map_or, option_and_then}
 use Rattle.std.proofs.Math.Nat.{le-max_right, max-le}
 use Rattle.std.proofs.lemmas.Bool.{cases_lt, and_parts, and_from, leb-true, le-leb, eqb-true, or_left, or_right}
-use Rattle.std.proofs.lemmas.List.Sums.{sum_by_more, prefix_len-le-length}
-use Rattle.std.proofs.lemmas.Option.{slice_get-get_or, slice_get_within, get_or_from_slice_get}
+use Rattle.std.proofs.lemmas.List.Sums.{prefix_len-le-length}
+use Rattle.std.proofs.lemmas.Option.{slice_get-get_or}
 use Rattle.cxl_enc.specs.declared.caps.MemKind.{MemKind}
 use Rattle.cxl_enc.specs.declared.caps.MemKind.TheVariants.{Ram, Pmem}
 use Rattle.cxl_enc.specs.Limits.{unit, address_limit}
@@ -17,7 +17,7 @@ use Rattle.cxl_topo.specs.Kinds.{capacity_of}
 use Rattle.cxl_regs.specs.declared.decoder.Decoder.{Decoder}
 use Rattle.cxl_regs.specs.Registers.{Registers, IsBlock, reset_decoder}
 use Rattle.cxl_regs.specs.Reading.{committed_count, span_length}
-use Rattle.cxl_span.specs.Spans.{span_step, span_start_of, span_end_of}
+use Rattle.cxl_span.specs.Spans.{span_start_of, span_end_of}
 use Rattle.cxl_span.specs.Partitions.{partition_start, partition_end, lies_in}
 use Rattle.cxl_span.specs.Allotting.{cursor_of}
 use Rattle.cxl_span.specs.Breaches.{BlockKeeps}
@@ -77,24 +77,6 @@ cases_last ds =
     elim (cases_lt 0 (committed_count ds)) [
       | inl some ↦ inr (record { d = get_or ds (committed_count ds - 1) reset_decoder; at = slice_get-get_or ds (committed_count ds - 1) reset_decoder (omega arith); some = some })
       | inr none ↦ inl (omega arith)
-    ]
-
-span_end : (ds : List Decoder) (i : ℕ) (d : Decoder) → slice_get ds i ≡ Some d → span_end_of ds i ≡ sum_by span_step (take i ds) + span_step d
-span_end ds i d is = ap (λ (o : Option Decoder). sum_by span_step (take i ds) + option_map_or (λ e. e.tail) o 0 + option_map_or span_length o 0) is ∙ omega arith
-
--- all that the committed decoders skip and take
-pub taken_to_cursor : (ds : List Decoder) → sum_by span_step (take (committed_count ds) ds) ≡ cursor_of ds
-taken_to_cursor ds =
-    let n : ℕ = committed_count ds in
-    elim (cases_last ds) [
-      | inl none ↦ ap (λ (k : ℕ). sum_by span_step (take k ds)) none ∙ sym (no_count n (span_end_of ds (n - 1)) none)
-      | inr last ↦
-          let low : n - 1 < length ds = slice_get_within ds (n - 1) last.d last.at in
-          let some = last.some in
-          let back : n ≡ n - 1 + 1 = omega arith in
-          ap (λ (k : ℕ). sum_by span_step (take k ds)) back ∙ sum_by_more span_step ds (n - 1) last.d low
-          ∙ ap (λ (x : Decoder). sum_by span_step (take (n - 1) ds) + span_step x) (get_or_from_slice_get ds (n - 1) last.d last.d last.at)
-          ∙ sym (span_end ds (n - 1) last.d last.at) ∙ sym (some_count n (span_end_of ds (n - 1)) some)
     ]
 
 -- what the law of spans says of an endpoint's block

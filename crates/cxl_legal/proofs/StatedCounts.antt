@@ -1,6 +1,6 @@
 -- How many requested endpoints lie under the used nodes of a request that fits.
 use Rattle.std.proofs.Common.{◌≡◌, ℕ, ◌*◌, ◌<◌, Bool, true, false, not, ◌&&◌, ◌||◌, List, length, get_or, map, Option, Some, None, refl, sym, ap, ◌∙◌, subst, eq-eqb, arith}
-use Rattle.std.specs.Prelude.{slice_get, ◌==◌, Contains}
+use Rattle.std.specs.Prelude.{◌==◌, Contains}
 use Rattle.std.specs.Option.{option_map_or}
 use Rattle.std.specs.List.{list_any, list_all, range_with_len}
 use Rattle.std.proofs.lemmas.Bool.{and_parts, and_from, or_right, eqb-true, false≢true}
@@ -12,14 +12,11 @@ use Rattle.std.proofs.lemmas.List.Sums.{AllPass-from_list_all}
 use Rattle.cxl_enc.proofs.Tests.{same_test, asked_or}
 use Rattle.cxl_enc.proofs.Lists.{list_any-weaker, All-at}
 use Rattle.cxl_enc.proofs.Numbers.{is_number}
-use Rattle.cxl_topo.specs.declared.node.Node.{Node}
-use Rattle.cxl_topo.specs.declared.node.NodeKind.{NodeKind}
-use Rattle.cxl_topo.specs.declared.node.NodeKind.TheVariants.{Bridge, Switch, Endpoint}
-use Rattle.cxl_topo.specs.Kinds.{is_bridge, is_endpoint}
 use Rattle.cxl_topo.specs.declared.node.Parent.{Parent}
-use Rattle.cxl_topo.specs.Tree.{is_bridge_at, is_endpoint_at, is_port_at, uid_at, parent_of, bridge_with}
+use Rattle.cxl_topo.specs.Tree.{is_bridge_at, is_endpoint_at, uid_at, parent_of, bridge_with}
 use Rattle.cxl_window.specs.Fields.{WindowFields, IsWindow}
 use Rattle.cxl_window.proofs.Usable.{usable_is}
+use Rattle.cxl_topo.proofs.Bridges.{top_bridge, bridge_port}
 use Rattle.cxl_topo.proofs.Trees.{KnownTree, parent_is_port, up_tree, ports_none, ports_some, is_above, leaves_at, leaves_above, leaves_once, root_of, port_no_endpoint, uid_top, endpoint_within}
 use Rattle.cxl_model.specs.declared.request.Request.{Request}
 use Rattle.cxl_model.specs.System.{System}
@@ -27,13 +24,14 @@ use Rattle.cxl_model.specs.Ranges.{product}
 use Rattle.cxl_model.specs.Rules.{are_distinct}
 use Rattle.cxl_model.specs.Counts.{is_under}
 use Rattle.cxl_model.proofs.Under.{under_self, under_is, under_child, under_endpoint, under_top}
+use Rattle.cxl_model.proofs.RangeWindows.{under_target}
 use Rattle.cxl_model.proofs.Sums.{one, total, length-filter-total, total-same, exchange, once, total_each, length_total, total_same_each}
 use Rattle.cxl_model.proofs.Distinct.{distinct_test}
 use Rattle.cxl_legal.specs.Used.{request_ways, is_used, count_under, is_port_used, used_ports, count_at_port, planned_ways, planned_ways_above}
 use Rattle.cxl_legal.specs.Endpoints.{first_bridge}
 use Rattle.cxl_legal.specs.Windows.{is_used_bridge, is_target}
 use Rattle.cxl_legal.proofs.RowsOthers.{found_some}
-use Rattle.cxl_legal.proofs.UsedNodes.{child_to, above_requested, used_by, used_parent, used_root, top_bridge}
+use Rattle.cxl_legal.proofs.UsedNodes.{child_to, above_requested, used_by, used_parent, used_root}
 use Rattle.cxl_legal.proofs.StatedImages.{Stated}
 use Rattle.cxl_legal.proofs.UsedPorts.{even_at, port_ways, port_used, port_child, listed_port, ports_pass, ports_distinct}
 
@@ -111,18 +109,6 @@ each_number test n k within all =
     let long = length-range_with_len 0 n in
     sym (ap test (get_or-range_with_len 0 n k 0 within ∙ omega arith)) ∙ AllPass-from_list_all test (range_with_len 0 n) all k 0 (omega (arith, long, within))
 
-bridge_port : (nodes : List Node) (n : ℕ) → is_bridge_at nodes n ≡ true → is_port_at nodes n ≡ true
-bridge_port nodes n bridge = go (slice_get nodes n) bridge
-  where
-    of_kind : (kind : NodeKind) → is_bridge kind ≡ true → not (is_endpoint kind) ≡ true
-    of_kind (Bridge uid) is = refl
-    of_kind Switch is = refl
-    of_kind (Endpoint capacity) is = absurd (false≢true is)
-
-    go : (o : Option Node) → option_map_or (λ node. is_bridge node.kind) o false ≡ true → option_map_or (λ node. not (is_endpoint node.kind)) o false ≡ true
-    go None is = is
-    go (Some node) is = of_kind node.kind is
-
 shared : {s : System} {request : Request} {w : WindowFields} {base : ℕ} → Stated s request w base → (n : ℕ) → is_bridge_at s.nodes n ≡ true → is_used s request n ≡ true → (first : ℕ) → first_bridge s request ≡ Some first
     → count_under s request n ≡ count_under s request first
 shared {s} {request} c n bridge used first at =
@@ -155,17 +141,13 @@ targeted {s} {request} {w} c b bridge used within =
     go None at is = absurd (false≢true is)
     go (Some uid) at is = (uid, at, is)
 
--- the bridge that has a UID stands above node m
-abbrev tops : System → ℕ → ℕ → Bool
-tops s uid m = option_map_or (λ b. is_under s.nodes b m) (bridge_with s.nodes uid) false
-
 record Tops (s : System) (uid m : ℕ) : Type 0 where
   bridge : ℕ
   found : bridge_with s.nodes uid ≡ Some bridge
   own : uid_at s.nodes bridge ≡ Some uid
   root : root_of s.nodes m ≡ Some bridge
 
-tops_is : (s : System) → KnownTree s.nodes → (uid m : ℕ) → tops s uid m ≡ true → Tops s uid m
+tops_is : (s : System) → KnownTree s.nodes → (uid m : ℕ) → under_target s uid m ≡ true → Tops s uid m
 tops_is s known uid m is = go (bridge_with s.nodes uid) refl is
   where
     go : (o : Option ℕ) → bridge_with s.nodes uid ≡ o → option_map_or (λ b. is_under s.nodes b m) o false ≡ true → Tops s uid m
@@ -176,29 +158,29 @@ tops_is s known uid m is = go (bridge_with s.nodes uid) refl is
 
 -- a requested endpoint stands under the bridge of one target
 one_target : {s : System} {request : Request} {w : WindowFields} {base : ℕ} → Stated s request w base → are_distinct w.targets ≡ true → (m : ℕ) → Contains request.endpoints m
-    → one true ≡ total (λ uid. one (tops s uid m)) w.targets
-one_target {s} {request} {w} c distinct m there = ap one (sym any) ∙ sym (once (λ uid. tops s uid m) same w.targets distinct)
+    → one true ≡ total (λ uid. one (under_target s uid m)) w.targets
+one_target {s} {request} {w} c distinct m there = ap one (sym any) ∙ sym (once (λ uid. under_target s uid m) same w.targets distinct)
   where
-    same : (u v : ℕ) → tops s u m ≡ true → tops s v m ≡ true → u ≡ v
+    same : (u v : ℕ) → under_target s u m ≡ true → under_target s v m ≡ true → u ≡ v
     same u v first second =
         let left = tops_is s c.known u m first in
         let right = tops_is s c.known v m second in
         let equal : left.bridge ≡ right.bridge = same_Some left.bridge right.bridge (sym left.root ∙ right.root) in
         same_Some u v (sym left.own ∙ ap (uid_at s.nodes) equal ∙ right.own)
 
-    any : list_any (λ uid. tops s uid m) w.targets ≡ true
+    any : list_any (λ uid. under_target s uid m) w.targets ≡ true
     any =
         let is = requested_within c m there in
         let top = used_root s request c.known m is.1 (used_by s request m m there (under_self c.known m)) in
         let target = targeted c top.bridge top.is top.used top.within in
         let found : bridge_with s.nodes target.0 ≡ Some top.bridge = (c.known.laws.bridges target.0 top.bridge).1 target.1 in
         let under : is_under s.nodes top.bridge m ≡ true = (under_top c.known top.bridge (c.known.tree.bridges top.bridge top.is) m).1 top.root in
-        list_any-weaker (λ uid. uid == target.0) (λ uid. tops s uid m)
-        (λ uid is. ap (λ (u : ℕ). tops s u m) (eqb-true uid target.0 is) ∙ ap (λ (o : Option ℕ). option_map_or (λ b. is_under s.nodes b m) o false) found ∙ under) w.targets target.2
+        list_any-weaker (λ uid. uid == target.0) (λ uid. under_target s uid m)
+        (λ uid is. ap (λ (u : ℕ). under_target s u m) (eqb-true uid target.0 is) ∙ ap (λ (o : Option ℕ). option_map_or (λ b. is_under s.nodes b m) o false) found ∙ under) w.targets target.2
 
 -- each target has as many
 count_target : {s : System} {request : Request} {w : WindowFields} {base : ℕ} → Stated s request w base → (b : ℕ) → is_bridge_at s.nodes b ≡ true → is_used s request b ≡ true → b < length s.nodes
-    → (uid : ℕ) → is_used_bridge s request uid ≡ true → total (λ m. one (tops s uid m)) request.endpoints ≡ count_under s request b
+    → (uid : ℕ) → is_used_bridge s request uid ≡ true → total (λ m. one (under_target s uid m)) request.endpoints ≡ count_under s request b
 count_target {s} {request} c b bridge used within uid target = go (bridge_with s.nodes uid) refl target
   where
     go : (o : Option ℕ) → bridge_with s.nodes uid ≡ o → option_map_or (is_used s request) o false ≡ true → total (λ m. one (option_map_or (λ a. is_under s.nodes a m) (bridge_with s.nodes uid) false)) request.endpoints ≡ count_under s request b
@@ -216,10 +198,10 @@ count_bridge : {s : System} {request : Request} {w : WindowFields} {base : ℕ} 
     → w.ways * count_under s request b ≡ request_ways request
 count_bridge {s} {request} {w} c b bridge used within =
     ap (λ (k : ℕ). k * count_under s request b) (sym window.target_each_way)
-    ∙ sym (total_same_each (λ uid. total (λ m. one (tops s uid m)) request.endpoints) (count_under s request b) w.targets
+    ∙ sym (total_same_each (λ uid. total (λ m. one (under_target s uid m)) request.endpoints) (count_under s request b) w.targets
     (λ k d inside. count_target c b bridge used within (get_or w.targets k d) (AllPass-from_list_all (is_used_bridge s request) w.targets all k d inside)))
-    ∙ exchange (λ uid m. one (tops s uid m)) w.targets request.endpoints
-    ∙ sym (total_each (λ m. one true) (λ m. total (λ uid. one (tops s uid m)) w.targets) request.endpoints
+    ∙ exchange (λ uid m. one (under_target s uid m)) w.targets request.endpoints
+    ∙ sym (total_each (λ m. one true) (λ m. total (λ uid. one (under_target s uid m)) w.targets) request.endpoints
     (λ k d inside. one_target c distinct (get_or request.endpoints k d) (Contains-get_or request.endpoints k d inside)))
     ∙ length_total request.endpoints
   where
@@ -249,7 +231,7 @@ pub count_down : {s : System} {request : Request} {w : WindowFields} {base : ℕ
 count_down {s} {request} {w} c =
     up_tree c.known (λ n. n < length s.nodes → is_used s request n ≡ true → count_under s request n * (planned_ways_above s request n * w.ways) ≡ request_ways request)
     (λ n none within used.
-    let bridge = top_bridge c.known n within none in
+    let bridge = top_bridge c.known n none within in
     let above : planned_ways_above s request n ≡ 1 = ap (λ (ps : List Parent). product (map (λ parent. planned_ways s request parent.node) ps)) (ports_none c.known n none) in
     let whole = count_bridge c n bridge used within in
     ap (λ (k : ℕ). count_under s request n * (k * w.ways)) above ∙ omega (arith, whole))

@@ -15,11 +15,12 @@ use Rattle.cxl_model.specs.System.{System, decoders_at, decoder_at}
 use Rattle.cxl_model.specs.Ranges.{IsCommittedRange, span_kind}
 use Rattle.cxl_model.specs.Rules.{starts_in_thirds, permits, keeps_window, keeps_targets, keeps_reach, keeps_ways}
 use Rattle.cxl_model.specs.Changes.{HaveSameDecoders}
-use Rattle.cxl_model.specs.Accepted.{breaks, breaks_at, IsAccepted, KeepsBlocks, IsWhole}
+use Rattle.cxl_model.specs.Accepted.{breaks, breaks_at, IsAccepted, IsWhole}
 use Rattle.cxl_model.specs.Plans.{committed_row}
 use Rattle.cxl_model.proofs.RangeRules.{rule_nine, rule_ten, rule_eleven}
 use Rattle.cxl_model.proofs.SpansKinds.{rule_twelve}
 use Rattle.cxl_model.proofs.ImageLaws.{AcceptedLaw}
+use Rattle.cxl_model.proofs.Staying.{WholeStays}
 use Rattle.cxl_legal.specs.Stated.{has_row, stated_row, planned_range}
 use Rattle.cxl_legal.proofs.StatedImages.{stated_image, Stated}
 use Rattle.cxl_legal.proofs.StatedLands.{stated_at, row_parts, serves_row, targets_kept, reach_kept}
@@ -109,17 +110,14 @@ committed {s} {request} c =
 
 -- ---- the other ranges
 
-abbrev pub StayLaw : Type 0
-StayLaw = (s t : System) (r : Range) → HaveSameDecoders s t r → KeepsBlocks t → IsWhole s r → IsWhole t r
-
 abbrev pub OthersLaw : System → Request → WindowFields → ℕ → Type 0
 OthersLaw s request w base = (r : Range) → r ≢ planned_range request base → HaveSameDecoders s (stated_image s request w base) r
 
-other_whole : {s : System} {request : Request} {w : WindowFields} {base : ℕ} → Stated s request w base → StayLaw → OthersLaw s request w base → (r : Range) → r ≢ planned_range request base → IsWhole (stated_image s request w base) r
+other_whole : {s : System} {request : Request} {w : WindowFields} {base : ℕ} → Stated s request w base → WholeStays → OthersLaw s request w base → (r : Range) → r ≢ planned_range request base → IsWhole (stated_image s request w base) r
 other_whole {s} {request} {w} {base} c stay others r other =
     stay s (stated_image s request w base) r (others r other) c.blocks (record { blocks = λ rule n i low. c.fits.accepted.each rule n i; range = λ rule n i d past there has. c.fits.accepted.each rule n i })
 
-pub accepted : {s : System} {request : Request} {w : WindowFields} {base : ℕ} → Stated s request w base → AcceptedLaw → StayLaw → OthersLaw s request w base → IsAccepted (stated_image s request w base)
+pub accepted : {s : System} {request : Request} {w : WindowFields} {base : ℕ} → Stated s request w base → AcceptedLaw → WholeStays → OthersLaw s request w base → IsAccepted (stated_image s request w base)
 accepted {s} {request} {w} {base} c law stay others =
     (law (stated_image s request w base)).1 (
       c.blocks,

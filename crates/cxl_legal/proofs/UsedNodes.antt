@@ -1,13 +1,13 @@
 -- The used nodes of a tree: what stands above one is used, and so is a child of each that is no endpoint.
-use Rattle.std.proofs.Common.{◌≡◌, ℕ, ◌<◌, true, false, List, length, Some, None, sym, ap, ◌∙◌, inl, inr, arith}
+use Rattle.std.proofs.Common.{◌≡◌, ℕ, ◌<◌, true, false, List, length, Some, sym, ap, ◌∙◌, inl, inr, arith}
 use Rattle.std.specs.Prelude.{◌==◌, Contains}
-use Rattle.std.proofs.lemmas.Bool.{cases_Bool, or_cases, or_right, eqb-true, false≢true}
-use Rattle.std.proofs.lemmas.Option.{none-some}
+use Rattle.std.proofs.lemmas.Bool.{or_cases, or_right, eqb-true, false≢true}
 use Rattle.std.proofs.lemmas.List.Elements.{All-contains}
 use Rattle.std.proofs.lemmas.List.Folds.{Any-from_list_any, list_any-from_Any}
 use Rattle.cxl_topo.specs.declared.node.Node.{Node}
 use Rattle.cxl_topo.specs.declared.node.Parent.{Parent}
 use Rattle.cxl_topo.specs.Tree.{is_bridge_at, is_endpoint_at, parent_of}
+use Rattle.cxl_topo.proofs.Bridges.{top_bridge}
 use Rattle.cxl_topo.proofs.Trees.{KnownTree, parent_is_port, up_tree, is_above, above_root, above_step, root_of, root_root, root_step}
 use Rattle.cxl_model.specs.declared.request.Request.{Request}
 use Rattle.cxl_model.specs.System.{System}
@@ -94,18 +94,10 @@ pub record UsedRoot (s : System) (request : Request) (n : ℕ) : Type 0 where
   pub used : is_used s request bridge ≡ true
   pub within : bridge < length s.nodes
 
--- a node without a parent is a bridge
-pub top_bridge : {nodes : List Node} → KnownTree nodes → (i : ℕ) → i < length nodes → parent_of nodes i ≡ None → is_bridge_at nodes i ≡ true
-top_bridge {nodes} known i within none =
-    elim (cases_Bool (is_bridge_at nodes i)) [
-      | inl bridge ↦ bridge
-      | inr other ↦ let own = known.tree.others i within other in absurd (none-some own.0 (sym none ∙ own.1))
-    ]
-
 pub used_root : (s : System) (request : Request) → KnownTree s.nodes → (n : ℕ) → n < length s.nodes → is_used s request n ≡ true → UsedRoot s request n
 used_root s request known =
     up_tree known (λ i. i < length s.nodes → is_used s request i ≡ true → UsedRoot s request i)
-    (λ i none within used. record { bridge = i; root = root_root known i none; is = top_bridge known i within none; used = used; within = within })
+    (λ i none within used. record { bridge = i; root = root_root known i none; is = top_bridge known i none within; used = used; within = within })
     (λ i p some rest within used.
     let up = (parent_is_port known i p some).0 in
     let above = rest (omega (arith, up, within)) (used_parent s request known i p some used) in

@@ -1,6 +1,6 @@
 -- What a request has to keep whatever the window: its endpoints, their number, its size, and room in its nodes (this
 -- project's rules).
-use Rattle.std.specs.Prelude.{◌≡◌, ◌≢◌, ℕ, ◌*◌, ◌/◌, ◌%◌, ◌<◌, ◌≤◌, ◌==◌, nat_le, ◌&&◌, ◌||◌, not, Bool, true, false, length, find, slice_get, AllPairs, Contains, Option}
+use Rattle.std.specs.Prelude.{◌≡◌, ◌≢◌, ℕ, ◌/◌, ◌==◌, nat_le, ◌&&◌, ◌||◌, not, Bool, true, false, length, find, slice_get, AllPairs, Contains, Option}
 use Rattle.std.specs.Option.{option_map_or}
 use Rattle.std.specs.List.{list_all, range_with_len}
 use Rattle.cxl_enc.specs.Codes.{is_ways}

@@ -2,6 +2,7 @@
 use Rattle.std.specs.Prelude.{◌≡◌, ℕ, ◌==◌, nat_lt, nat_le, ◌&&◌, ◌||◌, not, Bool, true, false, length, slice_get, Option, Some}
 use Rattle.std.specs.Option.{option_map_or}
 use Rattle.std.specs.List.{list_any, list_all, range_with_len}
+use Rattle.cxl_enc.specs.Bits.{window_fixed}
 use Rattle.cxl_enc.specs.Codes.{bits_of, code_in_table}
 use Rattle.cxl_topo.specs.Tree.{is_bridge_at, is_endpoint_at, uid_at, bridge_with}
 use Rattle.cxl_regs.specs.Words.{has_bit}
@@ -52,7 +53,7 @@ pub record FitsWindow (s : System) (request : Request) (w : WindowFields) : Type
   pub usable : is_usable w.verdict ≡ true
   pub kind : permits w request.kind ≡ true
   -- fixed configuration
-  pub open_to_plans : has_bit w.restrict 4 ≡ false
+  pub open_to_plans : has_bit w.restrict window_fixed ≡ false
   pub bridges : has_used_bridges s request w ≡ true
   pub gran : agrees_on_gran request.gran w ≡ true
   pub selects : (n : ℕ) → can_select s request w n ≡ true

@@ -7,7 +7,7 @@ ghost use Rattle.cxl_regs.specs.Rules.{endpoint_ways_ok};
 ghost use Rattle.cxl_legal.specs.Sizes.{IsSizeFor};
 ghost use Rattle.cxl_legal.specs.Windows.{agrees_on_gran};
 
-use cxl_enc::{ADDRESS_LIMIT, UNIT, code_of};
+use cxl_enc::{ADDRESS_LIMIT, CAP_WAYS3, CAP_WAYS16, UNIT, code_of, has_bit};
 use cxl_window::Window;
 
 /// Whether a region can have so many ways: 1, 2, 3, 4, 6, 8, 12 or 16.
@@ -33,8 +33,8 @@ pub fn can_have_ways(cap: u32, ways: u8) -> bool
     ensures { result ≡ option_map_or (endpoint_ways_ok cap) (code_in_table ways) false }
 {
     match ways {
-        3 | 6 | 12 => cap >> 11 & 1 == 1,
-        16 => cap >> 12 & 1 == 1,
+        3 | 6 | 12 => has_bit(cap, CAP_WAYS3),
+        16 => has_bit(cap, CAP_WAYS16),
         _ => true,
     }
 }

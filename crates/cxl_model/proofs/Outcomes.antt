@@ -29,13 +29,13 @@ one_value o x y one other = same_Some x y (sym one ∙ other)
 -- ---- one committed decoder holds an address
 
 -- what the law of ranges says of a block that keeps K2 to K8
-abbrev pub RangesRise : Type 0
-RangesRise =
+abbrev pub RisingLaw : Type 0
+RisingLaw =
     (block : Registers) (ram pmem i j : ℕ) (d e : Decoder) → BlockKeeps block ram pmem → slice_get block.decoders i ≡ Some d
     → slice_get block.decoders j ≡ Some e → i < j → e.committed ≡ true → d.base + d.size ≤ e.base
 
 -- no later decoder of the block holds the address as well
-not_above : RangesRise → (block : Registers) (ram pmem h i j : ℕ) (d e : Decoder) → BlockKeeps block ram pmem → slice_get block.decoders i ≡ Some d
+not_above : RisingLaw → (block : Registers) (ram pmem h i j : ℕ) (d e : Decoder) → BlockKeeps block ram pmem → slice_get block.decoders i ≡ Some d
     → slice_get block.decoders j ≡ Some e → Holds d h → Holds e h → i < j → ⊥
 not_above rise block ram pmem h i j d e keeps at_d at_e one other above =
     let apart = rise block ram pmem i j d e keeps at_d at_e above other.committed in
@@ -43,7 +43,7 @@ not_above rise block ram pmem h i j d e keeps at_d at_e one other above =
     let from = other.from in
     omega (arith, apart, below, from)
 
-one_in_block : RangesRise → (block : Registers) (ram pmem h i j : ℕ) (d e : Decoder) → BlockKeeps block ram pmem → slice_get block.decoders i ≡ Some d
+one_in_block : RisingLaw → (block : Registers) (ram pmem h i j : ℕ) (d e : Decoder) → BlockKeeps block ram pmem → slice_get block.decoders i ≡ Some d
     → slice_get block.decoders j ≡ Some e → Holds d h → Holds e h → i ≡ j
 one_in_block rise block ram pmem h i j d e keeps at_d at_e one other =
     elim (cases_lt i j) [
@@ -54,7 +54,7 @@ one_in_block rise block ram pmem h i j d e keeps at_d at_e one other =
       ]
     ]
 
-one_if_some : RangesRise → (o : Option Registers) (ram pmem h i j : ℕ) (d e : Decoder) → IfSome o (λ block. BlockKeeps block ram pmem)
+one_if_some : RisingLaw → (o : Option Registers) (ram pmem h i j : ℕ) (d e : Decoder) → IfSome o (λ block. BlockKeeps block ram pmem)
     → slice_get (option_map_or (λ block. block.decoders) o []) i ≡ Some d → slice_get (option_map_or (λ block. block.decoders) o []) j ≡ Some e
     → Holds d h → Holds e h → i ≡ j
 one_if_some rise None ram pmem h i j d e keeps at_d at_e one other =
@@ -67,11 +67,11 @@ pub record HoldsAt (s : System) (h n i : ℕ) (d : Decoder) : Type 0 where
   pub there : decoder_at s n i ≡ Some d
   pub holds : holds_address d h ≡ true
 
-pub one_number : RangesRise → (s : System) (h n i j : ℕ) (d e : Decoder) → Decodes s n → HoldsAt s h n i d → HoldsAt s h n j e → i ≡ j
+pub one_number : RisingLaw → (s : System) (h n i j : ℕ) (d e : Decoder) → Decodes s n → HoldsAt s h n i d → HoldsAt s h n j e → i ≡ j
 one_number rise s h n i j d e decodes one other =
     one_if_some rise (slice_get s.blocks n) _ _ h i j d e decodes.sound one.there other.there (holds_parts d h one.holds) (holds_parts e h other.holds)
 
-pub one_decoder : RangesRise → (s : System) (h n i j : ℕ) (d e : Decoder) → Decodes s n → HoldsAt s h n i d → HoldsAt s h n j e → d ≡ e
+pub one_decoder : RisingLaw → (s : System) (h n i j : ℕ) (d e : Decoder) → Decodes s n → HoldsAt s h n i d → HoldsAt s h n j e → d ≡ e
 one_decoder rise s h n i j d e decodes one other =
     let same : decoder_at s n j ≡ Some d = ap (decoder_at s n) (sym (one_number rise s h n i j d e decodes one other)) ∙ one.there in
     one_value (decoder_at s n j) d e same other.there
@@ -188,7 +188,7 @@ does s h n (Ends (Misses (NoChild m))) (here, inl nowhere) =
     does_at s h n m NoChild here (forwarding nowhere.forwards (sym (ap (after_forwarding n) nowhere.childless)))
 does s h n (Ends (Misses (NoChild m))) (here, inr lists) = does_at s h n m NoChild here (does_list_no_child s h n lists)
 
-one_decision : RangesRise → (s : System) (h n : ℕ) (one other : Move) → Decodes s n → Decided s h n one → Decided s h n other → one ≡ other
+one_decision : RisingLaw → (s : System) (h n : ℕ) (one other : Move) → Decodes s n → Decided s h n one → Decided s h n other → one ≡ other
 one_decision rise s h n one other decodes (by_none none is) (by_none _ at) = is ∙ sym at
 one_decision rise s h n one other decodes (by_none none is) (by_one i d held at) = absurd (clash (holds_address d h) held.holds (none i d held.there))
 one_decision rise s h n one other decodes (by_one i d held is) (by_none none at) = absurd (clash (holds_address d h) held.holds (none i d held.there))
@@ -198,7 +198,7 @@ one_decision rise s h n one other decodes (by_one i d held is) (by_one j e holds
     ∙ ap (by_decoder s h n j) (one_decoder rise s h n i j d e decodes held holds)
     ∙ sym at
 
-one_thing : RangesRise → (s : System) (h n : ℕ) (one other : Move) → Does s h n one → Does s h n other → one ≡ other
+one_thing : RisingLaw → (s : System) (h n : ℕ) (one other : Move) → Does s h n one → Does s h n other → one ≡ other
 one_thing rise s h n one other (forwarding a is) (forwarding b at) = is ∙ sym at
 one_thing rise s h n one other (forwarding a is) (refusing b at) = absurd (clash (forwards_at s.nodes n) a b.own)
 one_thing rise s h n one other (forwarding a is) (deciding b at) = absurd (clash (forwards_at s.nodes n) a b.own)
@@ -209,5 +209,5 @@ one_thing rise s h n one other (deciding a is) (forwarding b at) = absurd (clash
 one_thing rise s h n one other (deciding a is) (refusing b at) = absurd (b.broken a.sound)
 one_thing rise s h n one other (deciding a is) (deciding b at) = one_decision rise s h n one other a is at
 
-pub one_move : RangesRise → (s : System) (h n : ℕ) (one other : Move) → Moves s h n one → Moves s h n other → one ≡ other
+pub one_move : RisingLaw → (s : System) (h n : ℕ) (one other : Move) → Moves s h n one → Moves s h n other → one ≡ other
 one_move rise s h n one other a b = one_thing rise s h n one other (does s h n one a) (does s h n other b)

@@ -14,7 +14,7 @@ use Rattle.cxl_window.proofs.Usable.{usable_is}
 use Rattle.cxl_model.specs.declared.chain.Step.{Step}
 use Rattle.cxl_model.specs.System.{System, bridge_uids}
 use Rattle.cxl_model.specs.Chain.{End, Move, Forwards, Steps, Ends, Walk, on_forwarding, on_step, at_end, ChainEnd, chain_end_by, Targets, Chain, unheld, held}
-use Rattle.cxl_model.proofs.Outcomes.{RangesRise, one_value, one_move}
+use Rattle.cxl_model.proofs.Outcomes.{RisingLaw, one_value, one_move}
 
 -- ---- the way down
 
@@ -47,7 +47,7 @@ with_step steps others end other one two same way =
     let rest = way.steps in
     record { steps = λ i. same i ∷ rest i; end = way.end }
 
-one_way : RangesRise → (s : System) (h n : ℕ) (steps others : List Step) (end other : End) → Walk s h n steps end → Walk s h n others other → SameWay steps others end other
+one_way : RisingLaw → (s : System) (h n : ℕ) (steps others : List Step) (end other : End) → Walk s h n steps end → Walk s h n others other → SameWay steps others end other
 one_way rise s h n steps others end other (on_forwarding _ child _ _ move walk) (on_forwarding _ second _ _ moves walks) =
     let same : child ≡ second = ap (child_after n) (one_move rise s h n (Forwards child) (Forwards second) move moves) in
     one_way rise s h child steps others end other walk (from_child s h child second others other same walks)
@@ -119,7 +119,7 @@ same_outcomes index position steps others end other way =
     let b = way.end in
     λ i. chain_end_by index position (a i) (b i)
 
-one_of_window : RangesRise → (s : System) (h : ℕ) (w : WindowFields) (position other bridge way : ℕ) (steps others : List Step) (end ending : End)
+one_of_window : RisingLaw → (s : System) (h : ℕ) (w : WindowFields) (position other bridge way : ℕ) (steps others : List Step) (end ending : End)
     → Targets s h w position bridge → Targets s h w other way → Walk s h bridge steps end → Walk s h way others ending
     → chain_end_by w.index position steps end ≡ chain_end_by w.index other others ending
 one_of_window rise s h w position other bridge way steps others end ending one two walk walks =
@@ -133,7 +133,7 @@ not_held : (s : System) (h : ℕ) (w : WindowFields) (position bridge : ℕ)
     → ((i : ℕ) (v : WindowFields) → slice_get s.windows i ≡ Some v → position_at v h ≡ None) → Targets s h w position bridge → ⊥
 not_held s h w position bridge none targets = none-some position (sym (none w.index w targets.there) ∙ targets.holds)
 
-pub one_chain : RangesRise → (s : System) (h : ℕ) (one other : ChainEnd) → AreMadeWith s.windows (bridge_uids s.nodes) → Chain s h one → Chain s h other → one ≡ other
+pub one_chain : RisingLaw → (s : System) (h : ℕ) (one other : ChainEnd) → AreMadeWith s.windows (bridge_uids s.nodes) → Chain s h one → Chain s h other → one ≡ other
 one_chain rise s h one other is (unheld none a) (unheld _ b) = a ∙ sym b
 one_chain rise s h one other is (unheld none a) (held w position bridge steps end targets walk b) = absurd (not_held s h w position bridge none targets)
 one_chain rise s h one other is (held w position bridge steps end targets walk a) (unheld none b) = absurd (not_held s h w position bridge none targets)

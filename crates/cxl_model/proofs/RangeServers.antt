@@ -1,5 +1,5 @@
 -- What K4 and K12 say of an endpoint's decoder of a whole range, and how a slot's span leads to one.
-use Rattle.std.proofs.Common.{◌≡◌, ℕ, ◌*◌, ◌%◌, ◌^◌, ◌≤◌, ◌⊎◌, Bool, true, false, not, ◌&&◌, ◌||◌, if◌then◌else◌, [], get_or, Option, Some, None, refl, sym, ap, ◌∙◌, inl, inr, arith}
+use Rattle.std.proofs.Common.{◌≡◌, ℕ, ◌*◌, ◌%◌, ◌^◌, ◌<◌, ◌≤◌, ◌⊎◌, Bool, true, false, not, ◌&&◌, ◌||◌, if◌then◌else◌, [], length, get_or, Option, Some, None, refl, sym, ap, ◌∙◌, inl, inr, arith}
 use Rattle.std.specs.Prelude.{slice_get, ◌==◌, nat_le, IsSomeAnd, All}
 use Rattle.std.specs.Option.{option_map_or}
 use Rattle.std.proofs.lemmas.Bool.{and_parts, eqb-true, leb-true, or_cases}
@@ -8,6 +8,7 @@ use Rattle.std.proofs.lemmas.List.Quantifiers.{position-Some}
 use Rattle.cxl_enc.proofs.Tests.{asked}
 use Rattle.cxl_enc.proofs.Lists.{All-at}
 use Rattle.cxl_topo.specs.Tree.{is_endpoint_at}
+use Rattle.cxl_topo.proofs.Trees.{endpoint_within}
 use Rattle.cxl_regs.specs.declared.decoder.Decoder.{Decoder}
 use Rattle.cxl_regs.specs.Registers.{Registers, IsBlock, IsDecoder, reset_decoder}
 use Rattle.cxl_regs.specs.Rules.{codes_ok, endpoint_ways_ok, port_ways_ok}
@@ -20,10 +21,15 @@ use Rattle.cxl_regs.proofs.DecoderRanges.{has_parts, same_range}
 use Rattle.cxl_span.proofs.RulesBroken.{codes_here}
 use Rattle.cxl_model.specs.declared.found.Place.{Place}
 use Rattle.cxl_model.specs.System.{System, decoders_at, decoder_at, ram_at, pmem_at}
-use Rattle.cxl_model.specs.Ranges.{index_for, window_for, ways_above, span_kind, same_kind, range_ways, range_kind, range_code}
+use Rattle.cxl_model.specs.Counts.{is_endpoint_of}
+use Rattle.cxl_model.specs.Ranges.{serves, index_for, window_for, ways_above, span_kind, same_kind, range_ways, range_kind, range_code}
 use Rattle.cxl_model.specs.Rules.{keeps_ways, keeps_port_code}
 use Rattle.cxl_model.specs.Accepted.{breaks, KeepsBlocks, IsWhole}
 use Rattle.cxl_model.specs.Regions.{LeadsTo, past_forwarding, past_port, at_endpoint}
+
+-- an endpoint of a range stands in the tree
+pub endpoint_inside : (s : System) (r : Range) (m : ℕ) → is_endpoint_of s r m ≡ true → m < length s.nodes
+endpoint_inside s r m is = endpoint_within s.nodes m (and_parts (is_endpoint_at s.nodes m) (serves s r m) is).0
 
 -- ---- a decoder of a range
 

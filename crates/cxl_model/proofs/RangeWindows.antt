@@ -197,7 +197,7 @@ rooted rise s r w known whole window m is =
 -- ---- all endpoints of a range
 
 -- node m lies under the bridge with this UID
-abbrev under_target : System → ℕ → ℕ → Bool
+abbrev pub under_target : System → ℕ → ℕ → Bool
 under_target s uid m = option_map_or (λ b. is_under s.nodes b m) (bridge_with s.nodes uid) false
 
 under_one_target : RangesRise → (s : System) (r : Range) (w : WindowFields) → IsSystem s → KnownTree s.nodes → IsWhole s r → window_for s r ≡ Some w

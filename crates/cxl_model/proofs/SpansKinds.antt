@@ -21,12 +21,12 @@ use Rattle.cxl_model.specs.declared.found.Found.{Found}
 use Rattle.cxl_model.specs.declared.found.Place.{Place}
 use Rattle.cxl_model.specs.System.{System, IsSystem, decoders_at, decoder_at, ram_at, pmem_at}
 use Rattle.cxl_model.specs.Ranges.{serves, index_for, window_for, ways_above, span_kind, same_kind, range_ways, range_kind, range_code}
-use Rattle.cxl_model.specs.Rules.{keeps_ways, keeps_port_code}
+use Rattle.cxl_model.specs.Rules.{keeps_ways}
 use Rattle.cxl_model.specs.Accepted.{breaks, breaks_at, IsWhole}
 use Rattle.cxl_model.specs.Regions.{region_range, IsRegionIn}
 use Rattle.cxl_model.specs.Bytes.{slot_length}
 use Rattle.cxl_model.proofs.Outcomes.{one_value}
-use Rattle.cxl_model.proofs.RangeServers.{has_ways, InBlock, in_block, endpoint_test}
+use Rattle.cxl_model.proofs.RangeServers.{has_ways, InBlock, in_block, endpoint_test, ways_test}
 use Rattle.cxl_model.proofs.RangeRules.{block_keeps, served, kept}
 use Rattle.cxl_model.proofs.SpansSlots.{IsPlace}
 use Rattle.cxl_model.proofs.Spans.{slot_place}
@@ -66,9 +66,6 @@ pub rule_twelve : (s : System) (n i : ℕ) → breaks s 12 n i ≡ breaks_at s n
 unfolding breaks
 rule_twelve s n i = refl
 
-abbrev kind_test : System → ℕ → ℕ → Decoder → Range → Option WindowFields → Bool → Bool
-kind_test s n i d r o endpoint = option_map_or (λ w. if endpoint then endpoint_test s w n i d r else keeps_port_code s w n d) o true
-
 kinds_same : (a b : MemKind) → same_kind a b ≡ true → a ≡ b
 kinds_same Ram Ram same = refl
 kinds_same Ram Pmem same = absurd (false≢true same)
@@ -82,9 +79,9 @@ has_kind s w r n i d whole window endpoint there has =
     let own = has_parts r d has in
     let keeps : keeps_ways s n i d ≡ true = kept s n i d (keeps_ways s n i) there own.committed (sym (rule_twelve s n i) ∙ whole.range 12 n i d (omega arith) there has) in
     let test : endpoint_test s w n i d r ≡ true =
-    sym (ap (λ (q : Range). kind_test s n i d q (window_for s q) (is_endpoint_at s.nodes n)) (same_range r d own)
-    ∙ ap (λ (o : Option WindowFields). kind_test s n i d r o (is_endpoint_at s.nodes n)) window
-    ∙ ap (kind_test s n i d r (Some w)) endpoint)
+    sym (ap (λ (q : Range). ways_test s n i d q (window_for s q) (is_endpoint_at s.nodes n)) (same_range r d own)
+    ∙ ap (λ (o : Option WindowFields). ways_test s n i d r o (is_endpoint_at s.nodes n)) window
+    ∙ ap (ways_test s n i d r (Some w)) endpoint)
     ∙ keeps in
     let product : Bool = decoder_ways d == w.ways * ways_above s r n in
     let ways : Bool = decoder_ways d == range_ways s r in

@@ -6,14 +6,13 @@ use Rattle.std.specs.List.{list_any, list_all, filter_map, range_with_len}
 use Rattle.std.proofs.lemmas.Bool.{cases_lt, cases_Bool, and_parts, or_parts, false_from_ne_true, ne_eqb, le-ltb, false≢true}
 use Rattle.std.proofs.lemmas.Option.{slice_get_within, slice_get-get_or, get_or_from_slice_get, same_Some}
 use Rattle.std.proofs.lemmas.List.{length-take-le, get_or-take, same_lists}
-use Rattle.std.proofs.lemmas.List.Folds.{list_any_at}
 use Rattle.std.proofs.lemmas.List.Quantifiers.{position-Some}
 use Rattle.std.proofs.lemmas.Map.Keys.{any_passes_from_place}
 use Rattle.cxl_enc.specs.declared.caps.MemKind.{MemKind}
 use Rattle.cxl_enc.specs.declared.caps.MemKind.TheVariants.{Ram, Pmem}
 use Rattle.cxl_enc.specs.Codes.{bits_of}
 use Rattle.cxl_enc.proofs.Tests.{same_test}
-use Rattle.cxl_enc.proofs.Lists.{first_of}
+use Rattle.cxl_enc.proofs.Lists.{first_of, position_none}
 use Rattle.cxl_topo.specs.declared.node.Node.{Node}
 use Rattle.cxl_topo.specs.declared.node.Parent.{Parent}
 use Rattle.cxl_topo.specs.Kinds.{capacity_of}
@@ -73,15 +72,6 @@ no_find p (x ∷ xs) is =
     let parts = or_parts (p x) (list_any p xs) is in
     ap (λ b. if b then Some x else find p xs) parts.0 ∙ no_find p xs parts.1
 
-no_place : {X : Type 0} (d : X) (p : X → Bool) (xs : List X) → list_any p xs ≡ false → position p xs ≡ None
-no_place d p xs none = go (position p xs) refl
-  where
-    go : (o : Option ℕ) → position p xs ≡ o → o ≡ None
-    go None is = refl
-    go (Some i) is =
-        let at = position-Some p xs i d is in
-        absurd (false≢true (sym none ∙ list_any_at p xs i d at.0 at.1))
-
 pub same_first : {X : Type 0} (d : X) (p : X → Bool) (xs ys : List X) → KeepsPassing p xs ys → KeepsPassing p ys xs → SameFirst p xs ys
 same_first d p xs ys there back =
     elim (cases_Bool (list_any p xs)) [
@@ -97,7 +87,7 @@ same_first d p xs ys there back =
           record { any = also ∙ sym any; found = other.found ∙ ap Some element ∙ sym one.found; place = other.place ∙ ap Some (sym same) ∙ sym one.place }
       | inr none ↦
           let also : list_any p ys ≡ false = false_from_ne_true (list_any p ys) (λ any. false≢true (sym none ∙ any_plain d p ys xs back any)) in
-          record { any = also ∙ sym none; found = no_find p ys also ∙ sym (no_find p xs none); place = no_place d p ys also ∙ sym (no_place d p xs none) }
+          record { any = also ∙ sym none; found = no_find p ys also ∙ sym (no_find p xs none); place = position_none d p ys also ∙ sym (position_none d p xs none) }
     ]
 
 -- ---- lists with the same elements up to each that passes
@@ -359,8 +349,11 @@ same_rules s t r same rule n i d high there has =
     (same_test_at s t n i d (keeps_reach t n) (keeps_reach s n) there also (same_eleven s t r both n d own))
     (same_test_at s t n i d (keeps_ways t n i) (keeps_ways s n i) there also (same_twelve s t r both n i d own kind))
 
--- a whole range stays whole
-pub whole_stays : (s t : System) (r : Range) → HaveSameDecoders s t r → KeepsBlocks t → IsWhole s r → IsWhole t r
+-- a whole range stays one where the decoders that it needs are the same
+abbrev pub WholeStays : Type 0
+WholeStays = (s t : System) (r : Range) → HaveSameDecoders s t r → KeepsBlocks t → IsWhole s r → IsWhole t r
+
+pub whole_stays : WholeStays
 whole_stays s t r same keeps whole = record {
   blocks = keeps;
   range = λ rule n i d high there has.

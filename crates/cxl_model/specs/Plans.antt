@@ -1,6 +1,7 @@
 -- Which plans for a new region are legal (this project's rules).
 use Rattle.std.specs.Prelude.{◌≡◌, ◌≢◌, ℕ, ◌<◌, ◌==◌, nat_lt, not, true, false, if◌then◌else◌, List, fold, position, slice_get, slice_set, Contains, AllPairs, Some, IfSome, unwrap_or}
 use Rattle.std.specs.Option.{option_map_or}
+use Rattle.cxl_enc.specs.Bits.{window_fixed}
 use Rattle.cxl_topo.specs.Tree.{forwards_at, is_endpoint_at, path_of}
 use Rattle.cxl_regs.specs.declared.decoder.Decoder.{Decoder}
 use Rattle.cxl_regs.specs.Registers.{Registers, IsDecoder}
@@ -77,7 +78,7 @@ pub record IsLegalPlanIn (s : System) (request : Request) (w : WindowFields) (pl
   pub named : plan.name ≡ request.name
   pub there : slice_get s.windows w.index ≡ Some w
   -- fixed configuration
-  pub open_to_plans : has_bit w.restrict 4 ≡ false
+  pub open_to_plans : has_bit w.restrict window_fixed ≡ false
   pub agrees : AgreesOnCode request w
   pub rows_of : AreRowsOf s request plan.rows
   pub each_row : (row : Row) → Contains plan.rows row → IsRow s (region_range plan.found) row

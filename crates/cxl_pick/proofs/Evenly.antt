@@ -19,6 +19,7 @@ use Rattle.cxl_topo.specs.Laws.{AreTreeLaws}
 use Rattle.cxl_window.specs.Fields.{WindowFields, IsWindow, IsUsable}
 use Rattle.cxl_window.specs.Position.{is_usable}
 use Rattle.cxl_window.proofs.Usable.{usable_is}
+use Rattle.cxl_topo.proofs.Bridges.{top_bridge, bridge_port}
 use Rattle.cxl_topo.proofs.Trees.{KnownTree, parent_is_port, port_no_endpoint, endpoint_within}
 use Rattle.cxl_model.specs.declared.request.Request.{Request}
 use Rattle.cxl_model.specs.System.{System, IsSystem}
@@ -32,7 +33,7 @@ use Rattle.cxl_legal.specs.Windows.{is_used_bridge, is_target}
 use Rattle.cxl_legal.specs.Stated.{Fits}
 use Rattle.cxl_pick.proofs.Lists.{in_passes, kept_in, found}
 use Rattle.cxl_pick.proofs.Shares.{Asked, used_parent, even_shares}
-use Rattle.cxl_pick.proofs.Tops.{top_of, top_bridge, bridge_port, is_below, bridge_of, count_at_target, target_shares}
+use Rattle.cxl_pick.proofs.Tops.{top_of, is_below, bridge_of, count_at_target, target_shares}
 use Rattle.cxl_pick.proofs.Codes.{LieEvenly}
 
 -- a window of a system

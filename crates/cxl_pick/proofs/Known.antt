@@ -1,6 +1,6 @@
 -- What is known is what nodes give.
 use Rattle.std.proofs.Common.{◌≡◌, ◌≢◌, ℕ, zero, suc, ◌+◌, ◌*◌, ◌/◌, ◌%◌, ◌<◌, ◌≤◌, Bool, true, false, ◌&&◌, ◌||◌, not, if◌then◌else◌, cond, List, [], ◌∷◌, ◌++◌, length, get_or, set, filter, Option, Some, None, refl, sym, ap, ◌∙◌, subst, inl, inr, arith}
-use Rattle.std.specs.Prelude.{◌==◌, nat_le, take, find, option_map, unwrap_or, is_some, slice_get, IsSomeAnd, Contains, All}
+use Rattle.std.specs.Prelude.{◌==◌, nat_le, take, find, option_map, unwrap_or, is_some, slice_get, IsSomeAnd, Contains}
 use Rattle.std.specs.Option.{option_map_or}
 use Rattle.std.specs.List.{filter_map, flat_map, cons_option}
 use Rattle.std.proofs.Math.Nat.{div-le_self}
@@ -316,10 +316,6 @@ pushed_there [] x zero is = refl
 pushed_there [] x (suc i) is = absurd (omega (arith, is))
 pushed_there (y ∷ xs) x zero is = absurd (omega (arith, is))
 pushed_there (y ∷ xs) x (suc i) is = pushed_there xs x i (omega (arith, is))
-
-pub All-one : {X : Type 0} (P : X → Type 0) (x : X) → P x → All P (x ∷ [])
-All-one P x holds zero d within = holds
-All-one P x holds (suc i) d within = absurd (omega (arith, within))
 
 pub set_there : {X : Type 0} (xs : List X) (x : X) (i : ℕ) → i < length xs → slice_get (set xs i x) i ≡ Some x
 set_there xs x i within =

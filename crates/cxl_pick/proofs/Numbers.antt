@@ -7,12 +7,9 @@ use Rattle.std.proofs.lemmas.Nat.{pow-add, pow_pos}
 use Rattle.std.proofs.lemmas.Bool.{cases_eq, or_cases, or_left, or_right, eqb-true, ne_eqb, false≢true}
 use Rattle.cxl_enc.specs.Codes.{third_of, bits_of, log2_of, is_ways}
 use Rattle.cxl_enc.specs.Caps.{is_target_count}
-use Rattle.cxl_enc.proofs.Ways.{each_count, each_ways, some_ways}
+use Rattle.cxl_enc.proofs.Ways.{few_ways, each_count, each_ways, some_ways}
 use Rattle.cxl_enc.proofs.Numbers.{some_factor}
 use Rattle.cxl_pick.specs.inner.Gifts.{has_gift}
-
-pub few_ways : (p : ℕ) → is_ways p ≡ true → p ≤ 16
-few_ways p is = each_ways (λ n. n ≤ 16) p is (omega arith) (omega arith) (omega arith) (omega arith) (omega arith) (omega arith) (omega arith) (omega arith)
 
 pub ways_split : (p : ℕ) → is_ways p ≡ true → third_of p * 2 ^ bits_of p ≡ p
 ways_split p is = each_ways (λ n. third_of n * 2 ^ bits_of n ≡ n) p is refl refl refl refl refl refl refl refl

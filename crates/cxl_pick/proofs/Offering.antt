@@ -1,6 +1,6 @@
 -- For which numbers a node gives something, and by how many of its ports.
 use Rattle.std.proofs.Common.{◌≡◌, ℕ, zero, suc, ◌/◌, ◌%◌, ◌<◌, ◌≤◌, Bool, true, false, ◌&&◌, ◌||◌, cond, List, [], ◌∷◌, length, Option, Some, None, refl, sym, ap, ◌∙◌, inl, inr, arith}
-use Rattle.std.specs.Prelude.{◌==◌, nat_le, find, filter}
+use Rattle.std.specs.Prelude.{◌==◌, nat_le, find}
 use Rattle.std.specs.List.{filter_map, cons_option}
 use Rattle.std.proofs.Math.Nat.{div-le_self}
 use Rattle.std.proofs.lemmas.Bool.{cases_Bool, and_parts, eqb-true, leb-true, false_from_ne_true, le-leb}
@@ -68,15 +68,6 @@ too_few s want w n m willing u fewer =
     let b = and_parts ((m % u == 0) && nat_le u (targets_of (cap_at s n))) (nat_le u willing) a.0 in
     let enough = leb-true u willing b.1 in
     omega (arith, fewer, enough))
-
--- no more are kept than there are
-pub few_kept : (p : ℕ → Bool) (xs : List ℕ) → length (filter p xs) ≤ length xs
-few_kept p [] = omega arith
-few_kept p (x ∷ xs) = go (few_kept p xs) (p x)
-  where
-    go : length (filter p xs) ≤ length xs → (b : Bool) → length (cond b (x ∷ filter p xs) (filter p xs)) ≤ length (x ∷ xs)
-    go rest false = omega (arith, rest)
-    go rest true = omega (arith, rest)
 
 -- one that could lead by some ports where so many children are willing leads where they are
 pub leads_with : (s : System) (want : Want) (w : WindowFields) (n m willing u : ℕ) → can_lead s want w n m willing u ≡ (can_lead s want w n m u u && nat_le u willing)

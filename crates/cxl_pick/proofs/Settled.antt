@@ -1,5 +1,5 @@
 -- What a window gives, where it can take the region from a start.
-use Rattle.std.proofs.Common.{◌≡◌, ℕ, zero, suc, ◌/◌, ◌<◌, Bool, true, false, if◌then◌else◌, List, [], ◌∷◌, length, get_or, map, Result, Ok, Err, Option, Some, None, sym, ap, ◌∙◌, subst, inl, inr, arith}
+use Rattle.std.proofs.Common.{◌≡◌, ℕ, zero, suc, ◌<◌, Bool, true, false, if◌then◌else◌, List, [], ◌∷◌, length, get_or, map, Result, Ok, Err, Option, Some, None, sym, ap, ◌∙◌, subst, inl, inr, arith}
 use Rattle.std.specs.Prelude.{option_and_then, slice_get, IsSomeAnd, IfOk}
 use Rattle.std.specs.Option.{option_map_or}
 use Rattle.std.proofs.lemmas.Bool.{cases_lt, false≢true}
@@ -11,7 +11,8 @@ use Rattle.cxl_topo.proofs.Trees.{KnownTree}
 use Rattle.cxl_window.specs.Fields.{WindowFields}
 use Rattle.cxl_model.specs.System.{System}
 use Rattle.cxl_pick.specs.declared.want.Want.{Want}
-use Rattle.cxl_pick.specs.Picking.{can_take, latest_start, gives, all_given, given_in}
+use Rattle.cxl_pick.specs.Picking.{can_take, latest_start, all_given, given_in}
+use Rattle.cxl_pick.proofs.Parts.{at_target}
 use Rattle.cxl_pick.proofs.Tops.{bridge_of}
 
 bridge_within : (nodes : List Node) (b : ℕ) → is_bridge_at nodes b ≡ true → b < length nodes
@@ -28,14 +29,10 @@ target_within {nodes} known uid b at =
     let node : own.node ≡ b = same_Some own.node b (sym own.is ∙ at) in
     bridge_within nodes b (subst (λ (n : ℕ). is_bridge_at nodes n ≡ true) node own.bridge)
 
--- what the bridge of a UID gives for its share of the ways
-abbrev pub at_uid : System → Want → WindowFields → ℕ → ℕ → Option (List ℕ)
-at_uid s want w start uid = option_and_then (λ b. gives s want w start b (want.ways / w.ways)) (bridge_with s.nodes uid)
-
-pub given_from : (s : System) (want : Want) (w : WindowFields) (start : ℕ) → can_take want w ≡ true → latest_start want w ≡ Some start → all_given (map (at_uid s want w start) w.targets) ≡ given_in s want w
+pub given_from : (s : System) (want : Want) (w : WindowFields) (start : ℕ) → can_take want w ≡ true → latest_start want w ≡ Some start → all_given (map (at_target s want w start) w.targets) ≡ given_in s want w
 given_from s want w start can starts =
-    sym (ap (option_and_then (λ begin. all_given (map (at_uid s want w begin) w.targets))) starts)
-    ∙ sym (ap (λ (b : Bool). if b then option_and_then (λ begin. all_given (map (at_uid s want w begin) w.targets)) (latest_start want w) else None) can)
+    sym (ap (option_and_then (λ begin. all_given (map (at_target s want w begin) w.targets))) starts)
+    ∙ sym (ap (λ (b : Bool). if b then option_and_then (λ begin. all_given (map (at_target s want w begin) w.targets)) (latest_start want w) else None) can)
 
 -- ---- results and tables
 

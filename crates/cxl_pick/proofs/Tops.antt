@@ -1,15 +1,12 @@
 -- The bridges above endpoints, and a window whose targets are the bridges above all endpoints of a request.
-use Rattle.std.proofs.Common.{◌≡◌, ℕ, ◌<◌, Bool, true, false, not, List, [], ◌∷◌, length, get_or, Option, Some, None, refl, sym, ap, ◌∙◌, inl, inr, arith}
-use Rattle.std.specs.Prelude.{◌==◌, All, slice_get}
+use Rattle.std.proofs.Common.{◌≡◌, ℕ, Bool, true, false, List, [], ◌∷◌, length, get_or, Option, Some, None, refl, sym, ap, ◌∙◌, inl, inr, arith}
+use Rattle.std.specs.Prelude.{◌==◌, All}
 use Rattle.std.specs.Option.{option_map_or}
 use Rattle.std.specs.List.{list_any}
-use Rattle.std.proofs.lemmas.Bool.{cases_Bool, or_cases, or_right, eqb-true, false≢true}
+use Rattle.std.proofs.lemmas.Bool.{or_cases, or_right, eqb-true, false≢true}
 use Rattle.std.proofs.lemmas.Option.{none-some, same_Some}
 use Rattle.cxl_topo.specs.declared.node.Node.{Node}
-use Rattle.cxl_topo.specs.declared.node.NodeKind.{NodeKind}
-use Rattle.cxl_topo.specs.declared.node.NodeKind.TheVariants.{Bridge, Switch, Endpoint}
-use Rattle.cxl_topo.specs.Kinds.{is_bridge, is_endpoint}
-use Rattle.cxl_topo.specs.Tree.{is_bridge_at, is_port_at, uid_at, parent_of, bridge_with}
+use Rattle.cxl_topo.specs.Tree.{is_bridge_at, uid_at, parent_of, bridge_with}
 use Rattle.cxl_topo.proofs.Trees.{KnownTree, up_tree, uid_top}
 use Rattle.cxl_model.specs.declared.request.Request.{Request}
 use Rattle.cxl_model.specs.System.{System}
@@ -45,25 +42,6 @@ one_top {nodes} known b d none empty =
         | inr both ↦ rest above both
       ]
     ])
-
-pub top_bridge : {nodes : List Node} → KnownTree nodes → (b : ℕ) → parent_of nodes b ≡ None → b < length nodes → is_bridge_at nodes b ≡ true
-top_bridge {nodes} known b none within =
-    elim (cases_Bool (is_bridge_at nodes b)) [
-      | inl bridge ↦ bridge
-      | inr other ↦ let own = known.tree.others b within other in absurd (none-some own.0 (sym none ∙ own.1))
-    ]
-
-kind_port : (kind : NodeKind) → is_bridge kind ≡ true → is_endpoint kind ≡ false
-kind_port (Bridge uid) is = refl
-kind_port Switch is = refl
-kind_port (Endpoint capacity) is = absurd (false≢true is)
-
-pub bridge_port : (nodes : List Node) (b : ℕ) → is_bridge_at nodes b ≡ true → is_port_at nodes b ≡ true
-bridge_port nodes b is = go (slice_get nodes b) is
-  where
-    go : (o : Option Node) → option_map_or (λ node. is_bridge node.kind) o false ≡ true → option_map_or (λ node. not (is_endpoint node.kind)) o false ≡ true
-    go None none = absurd (false≢true none)
-    go (Some node) bridge = ap not (kind_port node.kind bridge)
 
 -- ---- the targets of a window
 

@@ -2,6 +2,7 @@
 use Rattle.std.specs.Prelude.{◌≡◌, ℕ, zero, suc, ◌+◌, ◌-◌, ◌*◌, ◌/◌, ◌%◌, ◌<◌, ◌==◌, nat_le, ◌&&◌, ◌||◌, ◌↔◌, not, max, Bool, true, false, if◌then◌else◌, List, [], ◌∷◌, ◌++◌, length, map, take, find, slice_get, Contains, AllPairs, Option, Some, None, option_map, option_and_then}
 use Rattle.std.specs.Option.{option_map_or}
 use Rattle.std.specs.List.{filter_map, flat_map, range_with_len}
+use Rattle.cxl_enc.specs.Bits.{window_fixed}
 use Rattle.cxl_enc.specs.Codes.{third_of, bits_of, log2_of, code_in_table, is_ways}
 use Rattle.cxl_enc.specs.Caps.{targets_of}
 use Rattle.cxl_topo.specs.Tree.{is_endpoint_at, child_of, bridge_with}
@@ -39,7 +40,7 @@ IsWantedSize want = IsSizeFor want.size want.ways
 -- it can be used, permits the kind, is not fixed, has the stated granularity where it has several ways, and its ways divide those that are wanted
 abbrev pub can_take : Want → WindowFields → Bool
 can_take want w =
-    is_usable w.verdict && permits w want.kind && not (has_bit w.restrict 4) && agrees_on_gran want.gran w
+    is_usable w.verdict && permits w want.kind && not (has_bit w.restrict window_fixed) && agrees_on_gran want.gran w
     && (want.ways % w.ways == 0)
 
 -- the greatest address, as many steps from the window's base as it may be, from which the region still ends within the window

@@ -9,7 +9,7 @@ ghost use Rattle.cxl_model.specs.Accepted.{IsOrderlySystem};
 ghost use Rattle.cxl_legal.specs.Bases.{last_end};
 ghost use Rattle.cxl_pick.specs.Picking.{can_serve_itself, is_open};
 ghost use Rattle.cxl_pick.specs.inner.Wanted.{HasWaysAndSize};
-ghost use Rattle.cxl_pick.specs.inner.Gifts.{AreHighest, AreChildrenOf, AreChildrenKnown, AreGifts, IsAsked, IsGift, can_lead, is_known, used, used_with, willing_of};
+ghost use Rattle.cxl_pick.specs.inner.Gifts.{AreHighest, AreChildrenOf, AreChildrenKnown, AreGifts, IsAsked, IsGift, can_lead, is_known, used_with, willing_of};
 
 use crate::children::children_of;
 use crate::gifts::{Gift, Gifts, is_known, known_at, narrowed, note};

@@ -1,6 +1,6 @@
 //! What is known of what nodes give, in a table for each code and third of windows.
 
-ghost use Rattle.std.specs.Prelude.{◌≡◌, ℕ, ◌<◌, ◌≤◌, false, true, length, get_or, All, IsSomeAnd, slice_get, IfOk, OnOk, None};
+ghost use Rattle.std.specs.Prelude.{◌≡◌, ℕ, ◌<◌, ◌≤◌, false, true, length, All, IsSomeAnd, slice_get, IfOk, OnOk};
 ghost use Rattle.cxl_enc.specs.Codes.{third_of};
 ghost use Rattle.cxl_enc.specs.Limits.{address_limit};
 ghost use Rattle.cxl_topo.specs.Tree.{is_endpoint_at};

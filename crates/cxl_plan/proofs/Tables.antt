@@ -9,7 +9,7 @@ use Rattle.std.proofs.lemmas.List.Folds.{list_any-append}
 use Rattle.std.proofs.lemmas.Option.{none-some, same_Some, slice_get_within}
 use Rattle.cxl_enc.proofs.Tests.{or_false}
 use Rattle.cxl_enc.proofs.Options.{cases_Option}
-use Rattle.cxl_enc.proofs.Lists.{get_last}
+use Rattle.cxl_enc.proofs.Lists.{get_last, zeros_at}
 use Rattle.cxl_topo.specs.declared.node.Node.{Node}
 use Rattle.cxl_topo.specs.declared.node.Parent.{Parent}
 use Rattle.cxl_topo.specs.Tree.{is_endpoint_at, parent_of, child_of}
@@ -120,15 +120,10 @@ parent_is n port (Some p) is =
     let at = eqb-true p.port port parts.1 in
     λ k. Some (record { node = node k; port = at k })
 
-zeros : (k port : ℕ) → ◌≡◌ {A = ℕ} (get_or (replicate k 0) port 0) 0
-zeros zero port = refl
-zeros (suc k) zero = refl
-zeros (suc k) (suc port) = zeros k port
-
 -- nothing is entered yet
 pub none_entered : (nodes : List Node) (request : Request) (n port : ℕ) (at : List ℕ) → at ≡ replicate 256 0 → get_or at port 0 ≡ entered_at nodes request [] n port
 none_entered nodes request n port at is =
-    ap (λ (xs : List ℕ). get_or xs port 0) is ∙ zeros 256 port ∙ elim (cases_Option (child_of nodes n port)) [ inl none ↦ rw none refl | inr some ↦ rw some.1 refl ]
+    ap (λ (xs : List ℕ). get_or xs port 0) is ∙ zeros_at 256 port ∙ elim (cases_Option (child_of nodes n port)) [ inl none ↦ rw none refl | inr some ↦ rw some.1 refl ]
 
 pub no_port_entered : (nodes : List Node) (n port : ℕ) → is_entered nodes [] n port ≡ false
 no_port_entered nodes n port = elim (cases_Option (child_of nodes n port)) [ inl none ↦ rw none refl | inr some ↦ rw some.1 refl ]

@@ -1,6 +1,7 @@
 -- Why there is no plan for a request, and why a window does not take one (this project's rules).
 use Rattle.std.specs.Prelude.{◌≡◌, ℕ, ◌+◌, ◌<◌, ◌≤◌, Bool, true, false, not, List, [], length, slice_get, find, Contains, Option, Some, Err}
 use Rattle.std.specs.List.{range_with_len}
+use Rattle.cxl_enc.specs.Bits.{window_fixed}
 use Rattle.cxl_enc.specs.Codes.{is_ways}
 use Rattle.cxl_regs.specs.Words.{has_bit}
 use Rattle.cxl_window.specs.Fields.{WindowFields}
@@ -46,7 +47,7 @@ pub record TakesRequest (s : System) (request : Request) (w : WindowFields) (bas
 abbrev pub SaysOfWindow : System → Request → WindowFields → Reason → Type 0
 SaysOfWindow s request w reasons.Unusable = is_usable w.verdict ≡ false
 SaysOfWindow s request w reasons.Kind = permits w request.kind ≡ false
-SaysOfWindow s request w reasons.Fixed = has_bit w.restrict 4 ≡ true
+SaysOfWindow s request w reasons.Fixed = has_bit w.restrict window_fixed ≡ true
 SaysOfWindow s request w reasons.Bridges = has_used_bridges s request w ≡ false
 SaysOfWindow s request w reasons.Gran = agrees_on_gran request.gran w ≡ false
 SaysOfWindow s request w (reasons.Select n) = least s (λ m. not (can_select s request w m)) ≡ Some n

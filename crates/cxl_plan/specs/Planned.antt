@@ -4,6 +4,7 @@ use Rattle.std.specs.Prelude.{ℕ, zero, suc, ◌+◌, ◌-◌, ◌*◌, ◌/◌
 use Rattle.std.specs.Bool.{then_some}
 use Rattle.std.specs.List.{list_any, filter_map, range_with_len}
 use Rattle.cxl_enc.specs.declared.caps.MemKind.TheVariants.{Ram}
+use Rattle.cxl_enc.specs.Bits.{window_fixed}
 use Rattle.cxl_enc.specs.Codes.{is_ways}
 use Rattle.cxl_topo.specs.Tree.{is_endpoint_at, child_of, bridge_with}
 use Rattle.cxl_regs.specs.Words.{has_bit}
@@ -88,7 +89,7 @@ abbrev pub reason_of : System → Request → WindowFields → Option Reason
 reason_of s request w = first_there (
     then_some (not (is_usable w.verdict)) reasons.Unusable
     ∷ then_some (not (permits w request.kind)) reasons.Kind
-    ∷ then_some (has_bit w.restrict 4) reasons.Fixed
+    ∷ then_some (has_bit w.restrict window_fixed) reasons.Fixed
     ∷ then_some (not (has_used_bridges s request w)) reasons.Bridges
     ∷ then_some (not (agrees_on_gran request.gran w)) reasons.Gran
     ∷ option_map reasons.Select (least s (λ m. not (can_select s request w m)))

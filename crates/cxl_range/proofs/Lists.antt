@@ -7,6 +7,7 @@ use Rattle.std.proofs.lemmas.Bool.{cond_both, eqb-true, eq-eqb, ne_eqb}
 use Rattle.std.proofs.lemmas.Nat.{div-add-mod', le-div}
 use Rattle.std.proofs.lemmas.List.Sums.{sum_by-cons}
 use Rattle.std.proofs.lemmas.List.FromFn.{get_or-map-range_with_len, length-map-range_with_len, map-range_with_len_more}
+use Rattle.cxl_enc.proofs.Lists.{All-one}
 use Rattle.cxl_num.specs.Interleave.{chunk_size}
 use Rattle.cxl_window.specs.Fields.{WindowFields}
 use Rattle.cxl_deal.specs.Weaves.{WeaveFields, weave_ways, dealt_slot, dealt_offset}
@@ -51,10 +52,6 @@ one_way v laws one h len from =
     }
 
 -- ---- chunk by chunk
-
-one_item : {X : Type 0} (P : X → Type 0) (x : X) → P x → All P (x ∷ [])
-one_item P x own zero d below = own
-one_item P x own (suc k) d below = absurd (omega arith)
 
 module _ (found : Found) (w : WindowFields) (h len : ℕ) where
   abbrev Touched : ℕ → Type 0
@@ -156,7 +153,7 @@ module _ (found : Found) (w : WindowFields) (h len : ℕ) where
         (λ (xs : List Extent). All (IsCarried found w) xs × Follow h (h + len) xs)
         (λ is.
         let one : weave_ways (weave_fields found w) ≡ 1 = woven.ways ∙ eqb-true found.ways 1 is in
-        (one_item (IsCarried found w) (extent_at found w h len) (carried found w h len (one_way (weave_fields found w) laws one h len base) (on_some_slot h) base ends), (refl, any, refl)))
+        (All-one (IsCarried found w) (extent_at found w h len) (carried found w h len (one_way (weave_fields found w) laws one h len base) (on_some_slot h) base ends), (refl, any, refl)))
         (λ _. chunks_told)
 
     pub lengths : sum_by (λ (e : Extent). e.len) (extents_of found w h len) ≡ len

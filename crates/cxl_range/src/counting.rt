@@ -1,6 +1,6 @@
 //! How many bytes of a range are dealt to each slot.
 
-ghost use Rattle.std.specs.Prelude.{◌≡◌, ℕ, ◌+◌, ◌-◌, ◌<◌, ◌≤◌, slice_index};
+ghost use Rattle.std.specs.Prelude.{◌≡◌, ℕ, ◌+◌, ◌<◌, ◌≤◌, slice_index};
 ghost use Rattle.cxl_enc.specs.Limits.{address_limit};
 ghost use Rattle.cxl_deal.specs.Weaves.{turns_end};
 ghost use Rattle.cxl_model.specs.System.{System, IsSystem};

@@ -3,7 +3,8 @@ use Rattle.std.proofs.Common.{◌≡◌, ℕ, ◌+◌, ◌≤◌, List, ◌++◌
 use Rattle.std.specs.Prelude.{slice_get}
 use Rattle.std.specs.List.{flat_map, enumerate_from}
 use Rattle.std.proofs.lemmas.Option.{slice_get_within, get_or_from_slice_get}
-use Rattle.cxl_text.proofs.Lines.{appended, numbered_line, all_items}
+use Rattle.cxl_enc.proofs.Lists.{appended}
+use Rattle.cxl_text.proofs.Lines.{numbered_line, all_items}
 
 pub item_line : {X : Type 0} (f : ℕ × X → List ℕ) (xs : List X) (i : ℕ) (x : X) (o p q : List ℕ) → slice_get xs i ≡ Some x → p ≡ o ++ flat_map f (enumerate_from 0 (take i xs)) → q ≡ p ++ f (i, x) → q ≡ o ++ flat_map f (enumerate_from 0 (take (i + 1) xs))
 item_line f xs i x o p q there so_far e =

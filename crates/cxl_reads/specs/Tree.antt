@@ -1,6 +1,7 @@
 -- A topology as lines: one for the frames of its devices, and one for each node (this project's rule).
 use Rattle.std.specs.Prelude.{◌≡◌, ℕ, Option, Some, None, List, [], ◌++◌, codes, decimal}
 use Rattle.std.specs.List.{flat_map, enumerate_from}
+use Rattle.cxl_enc.specs.Bits.{cap_low, cap_high, cap_ways3, cap_ways16}
 use Rattle.cxl_enc.specs.Caps.{decoders_of, decoders_code, targets_of, has_bit}
 use Rattle.cxl_topo.specs.declared.node.Capacity.{Capacity}
 use Rattle.cxl_topo.specs.declared.node.Node.{Node}
@@ -44,8 +45,8 @@ counts_text cap =
 -- on which address bits it selects, and which further ways it has
 unfoldable pub bits_text : ℕ → List ℕ
 bits_text cap =
-    bit_text (codes " low") (has_bit cap 8) ++ bit_text (codes " high") (has_bit cap 9) ++ bit_text (codes " ways3") (has_bit cap 11)
-    ++ bit_text (codes " ways16") (has_bit cap 12)
+    bit_text (codes " low") (has_bit cap cap_low) ++ bit_text (codes " high") (has_bit cap cap_high) ++ bit_text (codes " ways3") (has_bit cap cap_ways3)
+    ++ bit_text (codes " ways16") (has_bit cap cap_ways16)
 
 -- ---- lines
 

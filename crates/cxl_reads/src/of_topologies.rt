@@ -7,7 +7,7 @@ ghost use Rattle.cxl_reads.specs.Answers.{ComesTo, IsAnswered};
 ghost use Rattle.cxl_reads.specs.Tree.{name_text, memory_text, kind_text, parent_text, counts_text, bits_text, who_text, block_text, node_line, tree_text, IsTreeTold};
 
 use crate::answers::{TOPOLOGY, put_bit, put_text, told};
-use cxl_enc::{Memory, has_bit, target_count};
+use cxl_enc::{CAP_HIGH, CAP_LOW, CAP_WAYS3, CAP_WAYS16, Memory, has_bit, target_count};
 use cxl_inputs::{Outcome, Status, Stop, finish, given_topology};
 use cxl_io::{Sink, put_number};
 use cxl_regs::decoder_count;
@@ -166,8 +166,8 @@ fn put_counts(out: &mut Vec<u8>, cap: u32) -> Result<(), Memory>
 fn put_bits(out: &mut Vec<u8>, cap: u32) -> Result<(), Memory>
     ensures { OnOk result (out.new.items ≡ out.old.items ++ bits_text cap) }
 {
-    put_bit(out, b" low", has_bit(cap, 8))?;
-    put_bit(out, b" high", has_bit(cap, 9))?;
-    put_bit(out, b" ways3", has_bit(cap, 11))?;
-    put_bit(out, b" ways16", has_bit(cap, 12))
+    put_bit(out, b" low", has_bit(cap, CAP_LOW))?;
+    put_bit(out, b" high", has_bit(cap, CAP_HIGH))?;
+    put_bit(out, b" ways3", has_bit(cap, CAP_WAYS3))?;
+    put_bit(out, b" ways16", has_bit(cap, CAP_WAYS16))
 }

@@ -16,7 +16,7 @@ use crate::offsets::{CONTROL, GLOBAL_CONTROL, HEAD_SIZE, RESERVED, index_at, pla
 use crate::rules::{breaks_order, breaks_rise, codes_ok, decoder_count, select_ok};
 use crate::words::words_of;
 use crate::writing::with_control;
-use cxl_enc::{Memory, has_bit};
+use cxl_enc::{CONTROL_COMMIT, GLOBAL_ENABLE, Memory, has_bit};
 use std::alloc::Global;
 use std::marker::Model;
 
@@ -201,7 +201,7 @@ impl Block {
         ensures left { self.new ≡ (after_global self.old value).block }
         ensures told { result ≡ (after_global self.old value).effect }
     {
-        if has_bit(value, 1) {
+        if has_bit(value, GLOBAL_ENABLE) {
             self.enabled = true;
             return Effect::Written;
         }
@@ -264,7 +264,10 @@ impl Block {
         ensures left { self.new ≡ (after_release self.old index d value).block }
         ensures told { result ≡ (after_release self.old index d value).effect }
     {
-        if d.lock || has_bit(value, 9) || any_committed(&self.decoders.as_slice()[index + 1..]) {
+        if d.lock
+            || has_bit(value, CONTROL_COMMIT)
+            || any_committed(&self.decoders.as_slice()[index + 1..])
+        {
             return Effect::Dropped;
         }
         let released = Decoder {
@@ -284,7 +287,7 @@ impl Block {
         ensures told { result ≡ (after_control self.old index d value).effect }
     {
         let d = with_control(d, value);
-        if !has_bit(value, 9) {
+        if !has_bit(value, CONTROL_COMMIT) {
             let written = Decoder {
                 commit: false,
                 error: false,

@@ -7,7 +7,7 @@ ghost use Rattle.cxl_regs.specs.Writes.{with_low, with_high, with_word, with_con
 use crate::decoder::Decoder;
 use crate::offsets::{BASE_HIGH, BASE_LOW, SIZE_HIGH, SIZE_LOW, TAIL_LOW};
 use crate::words::{high_half, joined, low_half, top_bits};
-use cxl_enc::has_bit;
+use cxl_enc::{CONTROL_HOST_ONLY, CONTROL_LOCK, has_bit};
 
 /// Gives the decoder's word `place`, but not its control, the bits of `value` that count. No other register is touched.
 pub fn write_word(d: &mut Decoder, endpoint: bool, place: u32, value: u32)
@@ -45,8 +45,8 @@ pub fn with_control(d: Decoder, value: u32) -> Decoder
     Decoder {
         gran: (value % 16) as u8,
         ways: (value / 16 % 16) as u8,
-        lock: has_bit(value, 8),
-        host_only: has_bit(value, 12),
+        lock: has_bit(value, CONTROL_LOCK),
+        host_only: has_bit(value, CONTROL_HOST_ONLY),
         ..d
     }
 }

@@ -4,6 +4,7 @@ use Rattle.std.specs.Prelude.{codes, decimal}
 use Rattle.std.proofs.lemmas.List.{append-nil, length-take, take_more, take_all, map-append, get_or_default}
 use Rattle.std.proofs.lemmas.Grind.{flat_map-append}
 use Rattle.std.specs.List.{flat_map, enumerate_from, zip, range_with_len}
+use Rattle.cxl_enc.proofs.Lists.{appended}
 use Rattle.cxl_enc.proofs.Numbers.{numbers_more}
 use Rattle.cxl_reply.specs.Words.{more_spaced}
 use Rattle.cxl_reply.specs.Plans.{more_ports_text, ports_text}
@@ -88,10 +89,6 @@ one_port f (suc n) some =
     ∙ ap (λ (i : ℕ). ports_text (map f (range_with_len 0 (suc n))) ++ (codes "," ++ decimal (f i))) last
 
 -- ---- steps of loops
-
--- a text behind another
-pub appended : (o p q text more : List ℕ) → p ≡ o ++ text → q ≡ p ++ more → q ≡ o ++ (text ++ more)
-appended o p q text more h k = k ∙ ap (λ (t : List ℕ). t ++ more) h ∙ append_assoc o text more
 
 -- a line for each item
 pub item_step : {X : Type 0} (f : X → List ℕ) (xs : List X) (i : ℕ) (d : X) (o p q : List ℕ) → i < length xs → p ≡ o ++ flat_map f (take i xs) → q ≡ p ++ f (get_or xs i d) → q ≡ o ++ flat_map f (take (i + 1) xs)

@@ -1,4 +1,5 @@
 pub mod Trees
+pub mod Bridges
 pub mod NameKeys
 pub mod Entering
 mod ChildPlaces

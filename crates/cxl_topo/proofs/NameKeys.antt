@@ -2,13 +2,11 @@
 use Rattle.std.proofs.Common.{◌≡◌, ℕ, zero, suc, ◌+◌, ◌-◌, ◌*◌, ◌^◌, ◌<◌, ◌≤◌, ◌==◌, true, List, [], ◌∷◌, length, drop, refl, ap, subst, ◌∙◌, arith}
 use Rattle.std.specs.List.{list_all}
 use Rattle.std.specs.Str.{bytes_eq}
-use Rattle.std.specs.Cmp.{unsigned_ties}
-use Rattle.std.specs.BTreeMap.{is_at}
 use Rattle.std.proofs.lemmas.Bool.{and_parts}
 use Rattle.std.proofs.lemmas.Bool.Decides.{nat_tests, same_from_decides, Decides-eqb, Decides-like}
 use Rattle.std.proofs.lemmas.Slice.Eq.{bytes_eq-Decides}
 use Rattle.cxl_enc.specs.Name.{IsName, is_name_byte}
-use Rattle.cxl_topo.specs.Keys.{name_number, name_key, name_eq, name_cmp}
+use Rattle.cxl_topo.specs.Keys.{name_number, name_key, name_eq}
 
 -- no byte of a name is zero
 name_byte : (byte : ℕ) → is_name_byte byte ≡ true → (0 < byte) × (byte < 256)
@@ -35,10 +33,6 @@ pub name_same : (a b : List ℕ) → IsName a → IsName b → bytes_eq a b ≡ 
 name_same a b first second =
     let numbers = Decides-like (name_number a == name_number b) (same_name a b first.each second.each) (ap name_number) (Decides-eqb (name_number a) (name_number b)) in
     same_from_decides (bytes_eq a b) (name_number a == name_number b) (bytes_eq-Decides a b) numbers
-
--- the same by their order
-pub name_ties : (a b : List ℕ) → IsName a → IsName b → bytes_eq a b ≡ is_at (name_cmp (name_key a)) (name_key b)
-name_ties a b first second = name_same a b first second ∙ unsigned_ties (name_number a) (name_number b)
 
 -- how many numbers so many bytes write
 abbrev numbers : ℕ → ℕ

@@ -2,7 +2,7 @@
 use Rattle.std.specs.Prelude.{◌≡◌, ℕ, ◌+◌, ◌*◌, Bool, nat_eq, List, [], ◌∷◌, Some, None, if◌then◌else◌}
 use Rattle.std.specs.Option.{option_or}
 use Rattle.std.specs.declared.cmp.Ordering.{Ordering}
-use Rattle.std.specs.Ordering.{nat_cmp, on}
+use Rattle.std.specs.Ordering.{on}
 use Rattle.std.specs.BTreeMap.{BTreeMap, get, is_at}
 use Rattle.cxl_topo.specs.declared.tables.NameKey.{NameKey}
 
@@ -18,10 +18,6 @@ name_key name = record { 0 = name_number name }
 -- two keys are equal where their numbers are
 abbrev pub name_eq : NameKey → NameKey → Bool
 name_eq = on (λ key. key.0) nat_eq
-
--- the order of names as keys: by their numbers
-abbrev pub name_cmp : NameKey → NameKey → Ordering
-name_cmp = on (λ key. key.0) nat_cmp
 
 -- the new map has what the old one has, and the number at the key where the old one has nothing there
 abbrev pub Enters : {K : Type 0} → (K → K → Ordering) → BTreeMap K ℕ → BTreeMap K ℕ → K → ℕ → Type 0

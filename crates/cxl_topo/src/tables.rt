@@ -1,10 +1,9 @@
 //! Where the nodes of a tree are found by name, by UID and by parent.
 
 ghost use Rattle.std.specs.Prelude.{◌≡◌, ◌+◌, ◌<◌, ◌≤◌, length, take, nat_eq, Some, None, IfOk, OnOk};
-ghost use Rattle.std.specs.Cmp.{partial_order_from_own_ties};
 ghost use Rattle.std.specs.Cmp.Rules.{comparing, hashing};
 ghost use Rattle.std.specs.Hash as fed;
-ghost use Rattle.std.specs.Ordering.{nat_cmp, on, as_partial_cmp};
+ghost use Rattle.std.specs.Ordering.{on};
 ghost use Rattle.std.proofs.Common.{rules};
 
 use crate::children::Children;
@@ -12,7 +11,6 @@ use crate::enter::{add_uid, enter_bridge};
 use crate::node::Node;
 use cxl_enc::Name;
 use std::alloc::{AllocError, Global};
-use std::cmp::Ordering;
 use std::collections::{BTreeMap, HashMap};
 use std::hash::{Hash, Hasher};
 
@@ -42,37 +40,6 @@ impl Hash for NameKey {
 
     fn hash<H: Hasher>(&self, state: &mut H) {
         state.write_u128(self.0);
-    }
-}
-
-impl PartialOrd for NameKey {
-    ghost partial_cmp = { as_partial_cmp (on (λ key. key.0) nat_cmp) };
-
-    ghost laws = { partial_order_from_own_ties (Prim.search (comparing, rules)) (Prim.search (comparing, rules)) };
-
-    fn partial_cmp(&self, other: &NameKey) -> Option<Ordering> {
-        Some(self.cmp(other))
-    }
-}
-
-impl Ord for NameKey {
-    ghost cmp = { on (λ key. key.0) nat_cmp };
-
-    ghost total = { Prim.search (comparing, rules) };
-
-    ghost matches_partial_cmp = { Prim.search (comparing, rules) };
-
-    ghost matches_eq = { Prim.search (comparing, rules) };
-
-    // `Greater` comes first: a search passes most keys by it.
-    fn cmp(&self, other: &NameKey) -> Ordering {
-        if self.0 > other.0 {
-            Ordering::Greater
-        } else if self.0 == other.0 {
-            Ordering::Equal
-        } else {
-            Ordering::Less
-        }
     }
 }
 

@@ -2,6 +2,7 @@
 use Rattle.std.specs.Prelude.{ℕ, ◌+◌, ◌/◌, ◌%◌, true, false, List, [], ◌∷◌, replicate, Some, None}
 use Rattle.cxl_topo.specs.declared.node.Node.{Node}
 use Rattle.cxl_topo.specs.declared.node.NodeKind.TheVariants.{Bridge, Endpoint}
+use Rattle.cxl_enc.specs.Bits.{control_lock, control_commit, control_committed, control_error, control_host_only}
 use Rattle.cxl_enc.specs.Limits.{placeholder_cap}
 use Rattle.cxl_regs.specs.declared.decoder.Decoder.{Decoder}
 use Rattle.cxl_regs.specs.Registers.{Registers, reset_decoder, reset_block}
@@ -49,11 +50,11 @@ decoder base size control tail = record {
   size = size;
   gran = control % 16;
   ways = control / 16 % 16;
-  lock = has_bit control 8;
-  commit = has_bit control 9;
-  committed = has_bit control 10;
-  error = has_bit control 11;
-  host_only = has_bit control 12;
+  lock = has_bit control control_lock;
+  commit = has_bit control control_commit;
+  committed = has_bit control control_committed;
+  error = has_bit control control_error;
+  host_only = has_bit control control_host_only;
   tail = tail;
 }
 

@@ -1,7 +1,7 @@
 //! What the definitions say of the regions of worked images: their endpoints, their device bytes, and images
 //! that have the same decoders of a range.
 
-ghost use Rattle.std.specs.Prelude.{◌≡◌, ◌*◌, [], ◌∷◌, true, false};
+ghost use Rattle.std.specs.Prelude.{◌≡◌, [], ◌∷◌, true};
 ghost use Rattle.cxl_model.specs.Bytes.{LiesInSpan, slot_length};
 ghost use Rattle.cxl_model.specs.Changes.{HaveSameDecoders};
 ghost use Rattle.cxl_model.specs.Counts.{endpoints_of, endpoints_under};

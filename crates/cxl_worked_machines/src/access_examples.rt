@@ -1,8 +1,7 @@
 //! What the definitions say of accesses to the bytes and the addresses of worked machines, each the contract of a function
 //! that does nothing.
 
-ghost use Rattle.std.specs.Prelude.{◌≡◌, [], ◌∷◌, ◌++◌, codes, replicate};
-ghost use Rattle.std.specs.FinMap as map;
+ghost use Rattle.std.specs.Prelude.{[], ◌∷◌, replicate};
 ghost use Rattle.cxl_worked.specs.ExampleRegions.{region_of_two};
 ghost use Rattle.cxl_script.specs.declared.command.Command.TheVariants as commands;
 ghost use Rattle.cxl_reply.specs.declared.reply.Reply.TheVariants as replies;

@@ -1,13 +1,11 @@
 //! What the definitions say of worked machines, each the contract of a function that does nothing.
 
-ghost use Rattle.std.specs.Prelude.{◌≡◌, [], ◌∷◌, codes, Some, None, Err};
-ghost use Rattle.std.specs.FinMap as map;
+ghost use Rattle.std.specs.Prelude.{[], ◌∷◌, codes};
 ghost use Rattle.cxl_script.specs.declared.command.Command.TheVariants as commands;
 ghost use Rattle.cxl_model.specs.Contents.{Contents};
 ghost use Rattle.cxl_model.specs.declared.plan.PlanFault.TheVariants as faults;
 ghost use Rattle.cxl_reply.specs.declared.reply.Reply.TheVariants as replies;
 ghost use Rattle.cxl_machine.specs.Answers.{Answers};
-ghost use Rattle.cxl_machine.specs.Machine.{Machine};
 ghost use Rattle.cxl_machine.specs.Outcomes.{NoFault, Undone, LeftPending};
 ghost use Rattle.cxl_machine.specs.Replies.{becomes, stays};
 ghost use Rattle.cxl_worked_machines.specs.Examples.{fresh, create_named, with_r0, with_both, with_locked, making_r0, making_b, releasing, without_r0, named_at, r0, b, e1, hb0, many_regions, nothing, load, create_of, create_picked};

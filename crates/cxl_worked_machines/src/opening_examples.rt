@@ -1,9 +1,7 @@
 //! What the definitions say of how a worked host opens and of machines that are sound, each the contract of a function that does nothing.
 
-ghost use Rattle.std.specs.Prelude.{[], ◌∷◌};
 ghost use Rattle.std.specs.FinMap as map;
 ghost use Rattle.cxl_worked.specs.Examples.{two_bridges};
-ghost use Rattle.cxl_media.specs.MediaState.{MediaState};
 ghost use Rattle.cxl_worked_machines.specs.Examples.{first_byte, making_beside, one_block, opened, opened_releasing, opened_with};
 ghost use Rattle.cxl_machine.specs.Machine.{image_of};
 ghost use Rattle.cxl_machine.specs.Sound.{IsSound, Opens};

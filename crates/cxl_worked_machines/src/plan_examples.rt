@@ -1,9 +1,7 @@
 //! What the definitions say of plans, poison lists, trails and scripts on worked machines, each the contract of a function
 //! that does nothing.
 
-ghost use Rattle.std.specs.Prelude.{◌≡◌, false, [], ◌∷◌, ◌++◌, Some, None, Err, codes, replicate};
-ghost use Rattle.std.specs.FinMap as map;
-ghost use Rattle.cxl_enc.specs.declared.caps.MemKind.TheVariants.{Ram};
+ghost use Rattle.std.specs.Prelude.{◌≡◌, false, [], ◌∷◌, ◌++◌, None, Err, codes, replicate};
 ghost use Rattle.cxl_worked.specs.Examples.{six_ways, four_ways, two_bridges};
 ghost use Rattle.cxl_model.specs.declared.plan.PlanFault.TheVariants as faults;
 ghost use Rattle.cxl_model.specs.declared.plan.Reason.TheVariants as reasons;

@@ -1,6 +1,7 @@
 -- What is tested of each used node.
 use Rattle.std.specs.Prelude.{◌≡◌, ℕ, ◌≤◌, not, Bool, true, false, List, [], length, find, None}
 use Rattle.std.specs.List.{range_with_len}
+use Rattle.cxl_enc.specs.Bits.{window_fixed}
 use Rattle.cxl_enc.specs.Codes.{is_ways}
 use Rattle.cxl_enc.specs.Limits.{address_limit}
 use Rattle.cxl_topo.specs.declared.node.Node.{Node}
@@ -60,7 +61,7 @@ over nodes blocks windows = record { nodes = nodes; blocks = blocks; windows = w
 pub record KeepsWindow (nodes : List Node) (request : Request) (w : WindowFields) : Type 0 where
   pub usable : is_usable w.verdict ≡ true
   pub kind : permits w request.kind ≡ true
-  pub open_to_plans : has_bit w.restrict 4 ≡ false
+  pub open_to_plans : has_bit w.restrict window_fixed ≡ false
   pub bridges : has_used_bridges (tree_alone nodes) request w ≡ true
   pub gran : agrees_on_gran request.gran w ≡ true
   pub selects : find (λ m. not (selects_at nodes request w m)) (range_with_len 0 (length nodes)) ≡ None

@@ -1,7 +1,7 @@
 use Rattle.std.proofs.Common.{◌≡◌, cond, ◌++◌, rules}
 use Rattle.cxl_enc.proofs.Options.{on_ok}
 use Rattle.cxl_cedt.specs.Spelling.{number_bytes, window_codes}
-use Rattle.cxl_cedt.proofs.Appended.{appended}
+use Rattle.cxl_enc.proofs.Lists.{appended}
 use Rattle.cxl_cedt.proofs.writing.put_window_codes.Goals as goal
 
 pub returns : goal.returns

@@ -1,10 +1,11 @@
 use Rattle.std.proofs.Common.{◌≡◌, ℕ, ◌/◌, ◌<◌, ◌≤◌, Bool, ◌&&◌, not, sym, ap, ◌∙◌, arith}
 use Rattle.std.specs.Prelude.{◌==◌, nat_le, length}
+use Rattle.cxl_enc.proofs.Lists.{few_filtered}
 use Rattle.cxl_model.specs.Hosts.{as_system}
 use Rattle.cxl_model.specs.System.{System}
 use Rattle.cxl_pick.specs.inner.Gifts.{can_lead, known_at, willing_of}
 use Rattle.cxl_pick.proofs.Numbers.{some_count}
-use Rattle.cxl_pick.proofs.Offering.{uneven, too_few, few_kept, leads_with}
+use Rattle.cxl_pick.proofs.Offering.{uneven, too_few, leads_with}
 use Rattle.cxl_pick.proofs.asking.leads_by.Goals as goal
 
 pub nonzero_div-m : goal.nonzero_div-m
@@ -17,7 +18,7 @@ returns-then-m-u-ne0 c =
 pub returns-then-from-children : goal.returns-then-from-children
 returns-then-from-children c =
     let willing : ℕ = willing_of c.args.gifts.now.known.items c.args.children.now (c.args.m / c.args.u) in
-    let most = few_kept (λ k. not (known_at c.args.gifts.now.known.items k (c.args.m / c.args.u) == 0)) c.args.children.now in
+    let most = few_filtered (λ k. not (known_at c.args.gifts.now.known.items k (c.args.m / c.args.u) == 0)) c.args.children.now in
     sym (too_few (as_system c.args.host.now) c.args.want.now c.args.w.now c.args.node c.args.m willing c.args.u (fewer c.from.result c.args.u (length c.args.children.now) willing c.from.ensures c.if-from-children.true most))
   where
     fewer : (r u all some : ℕ) → r ≡ u → all < r → some ≤ all → some < u

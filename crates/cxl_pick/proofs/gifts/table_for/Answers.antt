@@ -2,11 +2,12 @@ use Rattle.std.proofs.Common.{◌≡◌, ℕ, ◌<◌, List, [], ◌∷◌, leng
 use Rattle.std.specs.Prelude.{All, slice_get, IsSomeAnd}
 use Rattle.std.proofs.lemmas.List.Elements.{All-append, All-set}
 use Rattle.std.proofs.lemmas.Option.{slice_get-get_or}
+use Rattle.cxl_enc.proofs.Lists.{All-one}
 use Rattle.cxl_enc.proofs.Options.{and_some}
 use Rattle.cxl_model.specs.Hosts.{as_system}
 use Rattle.cxl_pick.specs.declared.gifts.Gifts.{Gifts}
 use Rattle.cxl_pick.specs.inner.Gifts.{AreGifts, IsAsked}
-use Rattle.cxl_pick.proofs.Known.{All-one, pushed_there, set_there, of_there}
+use Rattle.cxl_pick.proofs.Known.{pushed_there, set_there, of_there}
 use Rattle.cxl_pick.proofs.gifts.table_for.Goals as goal
 
 pub returns-then-place-len-clause-tables : goal.returns-then-place-len-clause-tables

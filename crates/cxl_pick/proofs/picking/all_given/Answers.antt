@@ -2,15 +2,16 @@ use Rattle.std.proofs.Common.{◌≡◌, ℕ, ◌+◌, ◌/◌, ◌++◌, true, 
 use Rattle.std.specs.Prelude.{◌==◌, option_map, option_and_then, unwrap_or}
 use Rattle.std.proofs.Math.Nat.{div-le_self}
 use Rattle.std.proofs.lemmas.Bool.{ne_eqb}
+use Rattle.cxl_enc.proofs.Ways.{few_ways}
 use Rattle.cxl_topo.proofs.Trees.{KnownTree}
 use Rattle.cxl_model.specs.Hosts.{as_system}
 use Rattle.cxl_model.specs.System.{System}
 use Rattle.cxl_pick.specs.Picking.{all_given, gives}
-use Rattle.cxl_pick.proofs.Numbers.{few_ways}
+use Rattle.cxl_pick.proofs.Parts.{at_target}
 use Rattle.cxl_pick.proofs.Known.{known_some, nothing_given}
 use Rattle.cxl_pick.proofs.Walking.{some_list}
 use Rattle.cxl_pick.proofs.Givings.{uid_step, uid_none, uid_end}
-use Rattle.cxl_pick.proofs.Settled.{at_uid, target_within}
+use Rattle.cxl_pick.proofs.Settled.{target_within}
 use Rattle.cxl_pick.proofs.picking.all_given.Goals as goal
 
 pub ask-requires-clause-here : goal.ask-requires-clause-here
@@ -30,7 +31,7 @@ returns-in_default-clause-given c =
     let s : System = as_system c.args.host.now in
     let want = c.args.want.now in
     let w = c.args.w.now in
-    let f : ℕ → Option (List ℕ) = at_uid s want w c.args.start in
+    let f : ℕ → Option (List ℕ) = at_target s want w c.args.start in
     let uids : List ℕ = c.targets-targets.result.now in
     let i : ℕ = c.loop-uid.uid-index in
     let all : Option (List ℕ) = all_given (map f uids) in
@@ -43,7 +44,7 @@ returns-then-known_at-eq0-clause-given c =
     let s : System = as_system c.args.host.now in
     let want = c.args.want.now in
     let w = c.args.w.now in
-    let f : ℕ → Option (List ℕ) = at_uid s want w c.args.start in
+    let f : ℕ → Option (List ℕ) = at_target s want w c.args.start in
     let uids : List ℕ = c.targets-targets.result.now in
     let i : ℕ = c.loop-uid.uid-index in
     let all : Option (List ℕ) = all_given (map f uids) in
@@ -63,7 +64,7 @@ loop-uid-preserved c =
     let s : System = as_system c.args.host.now in
     let want = c.args.want.now in
     let w = c.args.w.now in
-    let f : ℕ → Option (List ℕ) = at_uid s want w c.args.start in
+    let f : ℕ → Option (List ℕ) = at_target s want w c.args.start in
     let uids : List ℕ = c.targets-targets.result.now in
     let i : ℕ = c.loop-uid.uid-index in
     let all : Option (List ℕ) = all_given (map f uids) in
@@ -87,7 +88,7 @@ loop-uid-preserved c =
 pub loop-uid-init : goal.loop-uid-init
 loop-uid-init c =
     let s : System = as_system c.args.host.now in
-    let f : ℕ → Option (List ℕ) = at_uid s c.args.want.now c.args.w.now c.args.start in (
+    let f : ℕ → Option (List ℕ) = at_target s c.args.want.now c.args.w.now c.args.start in (
       c.requires.gifts,
       c.requires.asked,
       ap (λ (xs : List ℕ). option_map (λ ms. xs ++ ms) (all_given (map f c.targets-targets.result.now))) c.new-given.ensures.items ∙ nothing_before (all_given (map f c.targets-targets.result.now)),
@@ -102,7 +103,7 @@ returns-clause-given c =
     let s : System = as_system c.args.host.now in
     let want = c.args.want.now in
     let w = c.args.w.now in
-    let f : ℕ → Option (List ℕ) = at_uid s want w c.args.start in
+    let f : ℕ → Option (List ℕ) = at_target s want w c.args.start in
     let uids : List ℕ = c.targets-targets.result.now in
     let i : ℕ = c.loop-uid.uid-index in
     let all : Option (List ℕ) = all_given (map f uids) in

@@ -7,7 +7,8 @@ use Rattle.cxl_model.specs.System.{System}
 use Rattle.cxl_pick.specs.Picking.{all_given, given_in}
 use Rattle.cxl_pick.specs.declared.gifts.Gifts.{Gifts}
 use Rattle.cxl_pick.specs.inner.Gifts.{AreGifts, IsAsked}
-use Rattle.cxl_pick.proofs.Settled.{at_uid, given_from, if_ok, item_there}
+use Rattle.cxl_pick.proofs.Parts.{at_target}
+use Rattle.cxl_pick.proofs.Settled.{given_from, if_ok, item_there}
 use Rattle.cxl_pick.proofs.picking.pick_in.Goals as goal
 
 pub all_given-requires-clause-gifts : goal.all_given-requires-clause-gifts
@@ -32,6 +33,6 @@ returns-clause-given c =
     let s : System = as_system c.args.host.now in
     let want = c.args.want.now in
     let w = c.args.w.now in
-    if_ok c.all_given.result (λ o. option_map (λ (given : Vec ℕ Global). given.items) o ≡ all_given (map (at_uid s want w c.in-Some.start) w.targets)) (λ o. option_map (λ (given : Vec ℕ Global). given.items) o ≡ given_in s want w)
+    if_ok c.all_given.result (λ o. option_map (λ (given : Vec ℕ Global). given.items) o ≡ all_given (map (at_target s want w c.in-Some.start) w.targets)) (λ o. option_map (λ (given : Vec ℕ Global). given.items) o ≡ given_in s want w)
     (λ o given. given ∙ given_from s want w c.in-Some.start (sym c.can_take.ensures ∙ c.if-not-can_take.false) (sym c.in-Some.ensures.start))
     c.all_given.ensures.given

@@ -1,7 +1,8 @@
 use Rattle.std.proofs.Common.{List, ℕ, map}
+use Rattle.cxl_enc.proofs.Lists.{appended}
 use Rattle.cxl_reply.specs.Words.{more_spaced}
 use Rattle.cxl_reply.specs.Texts.{word_text}
-use Rattle.cxl_text.proofs.Lines.{appended, word_step, all_items}
+use Rattle.cxl_text.proofs.Lines.{word_step, all_items}
 use Rattle.cxl_text.proofs.region.put_more_words.Goals as goal
 
 pub loop-word-preserved : goal.loop-word-preserved

@@ -2,6 +2,7 @@ use Rattle.std.proofs.Common.{◌≡◌, ◌≢◌, ℕ, zero, suc, ◌<◌, tru
 use Rattle.std.specs.Prelude.{All, AllPairs, Contains}
 use Rattle.std.proofs.lemmas.List.Elements.{All-nil, All-cons, All-contains}
 use Rattle.std.proofs.lemmas.List.Kept.{AllPairs-cons}
+use Rattle.cxl_enc.proofs.Lists.{All-one}
 use Rattle.cxl_topo.specs.Tree.{forwards_at, path_of}
 use Rattle.cxl_model.specs.declared.plan.Row.{Row}
 use Rattle.cxl_model.specs.declared.request.Request.{Request}
@@ -22,12 +23,10 @@ host = after_reset two_bridges
 abbrev both : Request → Request
 both request = of_ram request 0x20000000 (2 ∷ 3 ∷ [])
 
--- lists of one to four
-all_one : {X : Type 0} (P : X → Type 0) (x : X) → P x → All P (x ∷ [])
-all_one P x p = All-cons P x [] p (All-nil P)
+-- lists of two to four
 
 all_two : {X : Type 0} (P : X → Type 0) (x y : X) → P x → P y → All P (x ∷ y ∷ [])
-all_two P x y p q = All-cons P x (y ∷ []) p (all_one P y q)
+all_two P x y p q = All-cons P x (y ∷ []) p (All-one P y q)
 
 all_three : {X : Type 0} (P : X → Type 0) (x y z : X) → P x → P y → P z → All P (x ∷ y ∷ z ∷ [])
 all_three P x y z p q r = All-cons P x (y ∷ z ∷ []) p (all_two P y z q r)
@@ -36,7 +35,7 @@ pairs_none : {X : Type 0} (R : X → X → Type 0) → AllPairs R []
 pairs_none R i j d before within = absurd (omega arith)
 
 pairs_two : {X : Type 0} (R : X → X → Type 0) (x y : X) → R x y → AllPairs R (x ∷ y ∷ [])
-pairs_two R x y r = AllPairs-cons R x (y ∷ []) (all_one (R x) y r) (AllPairs-cons R y [] (All-nil (R y)) (pairs_none R))
+pairs_two R x y r = AllPairs-cons R x (y ∷ []) (All-one (R x) y r) (AllPairs-cons R y [] (All-nil (R y)) (pairs_none R))
 
 -- what holds of each of the four rows holds of every row
 each_of_four : (P : Row → Type 0) → P (row_of_both 0 0x1000) → P (row_of_both 1 0x1000) → P (row_of_both 2 0x1010) → P (row_of_both 3 0x1010)

@@ -1,4 +1,4 @@
-use Rattle.std.proofs.Common.{refl, Ok, arith, [], ◌∷◌}
+use Rattle.std.proofs.Common.{refl, Ok, arith}
 use Rattle.cxl_pick.specs.Picking.{gives_within}
 use Rattle.cxl_machine.specs.Jobs.{create_job}
 use Rattle.cxl_worked_machines.specs.Examples.{reset_system, plan_r0, plan_b, job_b}

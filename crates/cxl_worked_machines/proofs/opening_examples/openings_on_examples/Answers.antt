@@ -5,6 +5,7 @@ use Rattle.std.specs.FinMap as map
 use Rattle.std.specs.FinMap.{get-empty, len-empty}
 use Rattle.std.proofs.lemmas.Bool.{eqb-true, false≢true}
 use Rattle.std.proofs.lemmas.Option.{none-some, same_Some}
+use Rattle.cxl_enc.proofs.Lists.{All-one}
 use Rattle.cxl_topo.specs.declared.node.Parent.{Parent}
 use Rattle.cxl_topo.specs.Tree.{parent_of}
 use Rattle.cxl_regs.specs.Registers.{Registers}
@@ -23,11 +24,7 @@ use Rattle.cxl_worked_machines.specs.Examples.{opened}
 use Rattle.cxl_machine.specs.Sound.{auto_name}
 use Rattle.cxl_worked_machines.proofs.opening_examples.openings_on_examples.Goals as goal
 
--- what holds of one item holds of all of a list of it
-all_of_one : {A : Type 0} (P : A → Type 0) (x : A) → P x → All P (x ∷ [])
-all_of_one P x is zero d below = is
-all_of_one P x is (suc k) d below = absurd (omega arith)
-
+-- in a list of one item no two stand apart
 pairs_of_one : {A : Type 0} (R : A → A → Type 0) (x : A) → AllPairs R (x ∷ [])
 pairs_of_one R x i j d before below = absurd (omega (arith, before, below))
 
@@ -53,7 +50,7 @@ range_is r (suc (suc (suc (suc n)))) is = absurd (false≢true is)
 
 regions : IsRegionIn two_bridges window_of_both region_of_two → AreRegions two_bridges (region_of_two ∷ [])
 regions region = record {
-  each = all_of_one (IsRegion two_bridges) region_of_two (window_of_both, region);
+  each = All-one (IsRegion two_bridges) region_of_two (window_of_both, region);
   all = λ r committed. (region_of_two, (0, omega arith, refl), range_is r committed.0 committed.1);
   once = pairs_of_one (λ (a b : Found). a ≢ b) region_of_two;
 }
@@ -119,7 +116,7 @@ returns-clause-sound c = record {
     regions = record {
       all = regions c.regions_on_examples.ensures.two;
       names = pairs_of_one (λ (region other : Live). region.name ≢ other.name) opened_region;
-      contents = all_of_one (λ (region : Live). AreContents region.found region.contents) opened_region no_bytes;
+      contents = All-one (λ (region : Live). AreContents region.found region.contents) opened_region no_bytes;
       few = omega arith;
     };
     job = tt;
