@@ -1,6 +1,6 @@
 //! Laws of images, of machines and of commands one after the other, each the contract of a function that does nothing.
 
-ghost use Rattle.std.specs.Prelude.{◌≡◌, ℕ, ◌≤◌, List};
+ghost use Rattle.std.specs.Prelude.{ℕ, ◌≤◌, List};
 ghost use Rattle.cxl_enc.specs.Limits.{frame_limit};
 ghost use Rattle.cxl_model.specs.declared.found.Found.{Found};
 ghost use Rattle.cxl_model.specs.Accepted.{IsAccepted};

@@ -1,11 +1,8 @@
 //! Lines that are carried out on a session that is kept, and whose words nobody asks for.
 
-ghost use Rattle.std.specs.Prelude.{◌≡◌, ◌≤◌, ◌⊎◌, [], List, IfOk, IfErr};
+ghost use Rattle.std.specs.Prelude.{◌≡◌, ◌≤◌, ◌⊎◌, List, IfOk, IfErr};
 ghost use Rattle.cxl_machine.specs.Machine.{Machine};
 ghost use Rattle.cxl_machine.specs.Scripts.{Asked, Turn};
-ghost use Rattle.cxl_media.specs.Sim.{shipped_state};
-ghost use Rattle.cxl_session.specs.State.{SessionState};
-ghost use Rattle.cxl_session.specs.Standing.{Stands};
 ghost use Rattle.cxl_shell.specs.Endings.{EndsScript};
 ghost use Rattle.cxl_held.specs.Sessions.{IsKept, IsHeldAt, HasPassedOver};
 ghost use Rattle.cxl_held.specs.Trails.{untrailed};

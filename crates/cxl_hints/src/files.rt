@@ -6,7 +6,7 @@ use cxl_cedt::CedtFault;
 use cxl_image::ImageFault;
 use cxl_inputs::fault_node;
 use cxl_io::{Fetch, StdFetch};
-use cxl_topofile::{Key, Place, Section, TopoFault};
+use cxl_topofile::{Key, Section, TableKey, TopoFault};
 use std::alloc::Global;
 use std::fs::{self, File};
 use std::io::{self, Eprint, ErrorKind};
@@ -155,7 +155,7 @@ fn line_of_fault(alloc: Global, text: &str, fault: TopoFault) -> io::Result<Opti
     }
 }
 
-fn line_of_place(alloc: Global, text: &str, place: Place) -> io::Result<Option<usize>> {
+fn line_of_place(alloc: Global, text: &str, place: TableKey) -> io::Result<Option<usize>> {
     let Some(above) = line_above(text, place.section, place.index) else {
         return Ok(None);
     };

@@ -17,7 +17,7 @@ use crate::status::Status;
 use crate::stop::Stop;
 use cxl_io::{Fetch, Memory};
 use cxl_topo::{Topo, TreeFault};
-use cxl_topofile::{Place, TopoFault, read_topo};
+use cxl_topofile::{TableKey, TopoFault, read_topo};
 use std::alloc::Global;
 
 /// The topology of a command's file. It stops where there is none.
@@ -70,7 +70,7 @@ fn faulty(alloc: Global, fault: TopoFault) -> Result<Outcome, Memory>
 }
 
 /// The line that names a fault by a word and its place in the file.
-fn place_line(alloc: Global, word: &str, place: Place) -> Result<Vec<u8>, Memory>
+fn place_line(alloc: Global, word: &str, place: TableKey) -> Result<Vec<u8>, Memory>
     ensures { IfOk result (λ text. text.items ≡ line (codes "error: topology " ++ word.now ++ codes " " ++ place_text place)) }
 {
     let text = format!(in alloc; "error: topology {word} {place}\n")?;

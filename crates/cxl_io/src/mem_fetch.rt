@@ -1,6 +1,6 @@
 //! Files in memory, which can be told to fail.
 
-ghost use Rattle.std.specs.Prelude.{◌≡◌, ◌≢◌, ◌≤◌, ◌⊎◌, Some, Ok, Err, [], ◌∷◌, ◌++◌, IfOk, IfErr, OnOk, OnErr, option_copied, string_bytes};
+ghost use Rattle.std.specs.Prelude.{◌≡◌, ◌≢◌, ◌≤◌, ◌⊎◌, Some, Ok, Err, [], ◌∷◌, ◌++◌, IfOk, IfErr, OnOk, OnErr, option_copied};
 ghost use Rattle.cxl_enc.specs.Faults.{Rose};
 ghost use Rattle.cxl_enc.specs.Counters.{fresh_counters};
 ghost use Rattle.cxl_io.specs.Fetch.{AsksFor, IsFile, IsTooLarge};

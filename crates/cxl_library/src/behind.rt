@@ -11,7 +11,6 @@ ghost use Rattle.cxl_reads.specs.Answers.{ComesTo, IsAnswered, image_name};
 ghost use Rattle.cxl_shell.specs.commands.Script.{script_stopped};
 ghost use Rattle.cxl_turns.specs.declared.endings.Ending.TheVariants.{TooMuch};
 ghost use Rattle.cxl_library.specs.Behind.{word_lines, last_words, HasCarriedOutScript, IsTextOf, IsToldOver, IsToldBehind};
-ghost use Rattle.cxl_library.specs.Slices.{Slices, slices};
 
 use crate::last_line::last_line;
 use crate::slice_source::SliceSource;

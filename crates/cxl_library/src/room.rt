@@ -1,8 +1,6 @@
 //! The caller's room for an answer.
 
-ghost use Rattle.std.specs.Prelude.{◌≡◌, ◌+◌, ◌-◌, ◌<◌, ◌≤◌, ◌++◌, length, min, take, IfOk, OnOk, OnErr};
-ghost use Rattle.cxl_enc.specs.Faults.{HasCause};
-ghost use Rattle.cxl_io.specs.Sink.{Takes};
+ghost use Rattle.std.specs.Prelude.{◌≡◌, ◌+◌, ◌-◌, ◌<◌, ◌≤◌, ◌++◌, length, min, take};
 
 use cxl_enc::Failed;
 use cxl_io::Sink;

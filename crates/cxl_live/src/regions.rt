@@ -1,6 +1,6 @@
 //! The live regions of a session, in the order in which they were made, and found by address.
 
-ghost use Rattle.std.specs.Prelude.{◌≡◌, ℕ, ◌<◌, ◌≤◌, [], ◌∷◌, ◌++◌, length, insert, remove, position, slice_get, Some, IfOk};
+ghost use Rattle.std.specs.Prelude.{◌≡◌, ◌<◌, ◌≤◌, [], ◌∷◌, ◌++◌, length, insert, remove, position, slice_get, Some, IfOk};
 ghost use Rattle.cxl_machine.specs.Machine.{has_host};
 ghost use Rattle.cxl_model.specs.Listed.{region_limit};
 ghost use Rattle.cxl_live.specs.Apart.{LieApart};

@@ -14,7 +14,7 @@ use Rattle.cxl_model.specs.declared.poison.Poisoned.{Poisoned}
 use Rattle.cxl_model.specs.declared.poison.Run.{Run}
 use Rattle.cxl_model.specs.Poison.{region_of}
 use Rattle.cxl_poison.specs.Live.{SpanFields}
-use Rattle.cxl_poison.specs.Pieces.{Cut, AreRunsOf, ArePartsOf, ArePartsInAll, ArePoisonedPieces}
+use Rattle.cxl_poison.specs.Pieces.{Cut, AreRunsOf, ArePartsOf, ArePartsInAll}
 use Rattle.cxl_poison.specs.Pieces as pieces
 use Rattle.cxl_reply.specs.declared.reply.Reply.{Reply}
 use Rattle.cxl_reply.specs.Conditions.{IsNode, IsTold}

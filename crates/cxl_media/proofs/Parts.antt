@@ -5,6 +5,7 @@ use Rattle.std.proofs.lemmas.Bool.{cases_eq}
 use Rattle.std.proofs.lemmas.List.{same_lists, length-set, length-append, get_or-set_same, get_or-set_other, get_or_append_left, get_or-replicate, length-replicate}
 use Rattle.std.proofs.lemmas.List.FromFn.{length-map-range_with_len, get_or-map-range_with_len}
 use Rattle.std.proofs.lemmas.List.Sums.{sum_by-cons, sum_by-set, count_by-le-length}
+use Rattle.cxl_enc.proofs.Lists.{zeros_at}
 use Rattle.cxl_media.specs.Numbers.{no_numbers, part_named, number_at, numbers_of, is_made, AreParts}
 
 pub length_numbers : (parts : List ℕ) (made : List (List ℕ)) (total : ℕ) → length (numbers_of parts made total) ≡ total
@@ -25,13 +26,6 @@ numbers_alike old new made more total alike =
 -- the numbers of a part that was not made are 0
 pub not_made : (parts : List ℕ) (made : List (List ℕ)) (k : ℕ) → get_or parts (k / 256) 0 ≡ 0 → number_at parts made k ≡ 0
 not_made parts made k none = ap (λ name. get_or (part_named made name) (k % 256) 0) none
-
--- each of some zeros is 0
-pub zeros_at : (n i : ℕ) → ◌≡◌ {A = ℕ} (get_or (replicate n 0) i 0) 0
-zeros_at zero zero = refl
-zeros_at zero (suc i) = refl
-zeros_at (suc n) zero = refl
-zeros_at (suc n) (suc i) = zeros_at n i
 
 -- all numbers are 0 where no part was made
 pub numbers_new : (parts : List ℕ) (made : List (List ℕ)) (count total : ℕ) → parts ≡ replicate count 0 → numbers_of parts made total ≡ replicate total 0

@@ -1,6 +1,6 @@
 //! The cells of the index and the blocks that they name.
 
-ghost use Rattle.std.specs.Prelude.{◌≡◌, ℕ, ◌+◌, ◌*◌, ◌<◌, ◌≤◌, [], ◌∷◌, ◌++◌, None, Some, IfOk, IfSome, IfNone, IsSome, length, replicate, slice_index_or, slice_set, swap, swap_remove};
+ghost use Rattle.std.specs.Prelude.{◌≡◌, ◌+◌, ◌*◌, ◌<◌, ◌≤◌, [], ◌∷◌, ◌++◌, None, Some, IfOk, IfSome, IfNone, IsSome, length, replicate, slice_index_or, slice_set, swap, swap_remove};
 ghost use Rattle.std.specs.Option.{option_copied};
 ghost use Rattle.cxl_enc.specs.Limits.{frame_limit};
 ghost use Rattle.cxl_media.specs.declared.cell_list.KeptBlock.{KeptBlock};
@@ -53,8 +53,6 @@ impl Model for CellList {
 }
 
 impl CellList {
-    ghost use Rattle.cxl_media.specs.declared.cell.Cell.{Cell};
-
     /// No cell. Takes no memory.
     pub fn empty(alloc: Global) -> CellList
         ensures cells { result.cells ≡ [] }

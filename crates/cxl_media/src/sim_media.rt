@@ -1,6 +1,6 @@
 //! The shipped media: blocks in the frames of a pool.
 
-ghost use Rattle.std.specs.Prelude.{◌≡◌, ℕ, ◌+◌, ◌%◌, ◌↔◌, IsSome, IsTrue, Some, IfSome, length};
+ghost use Rattle.std.specs.Prelude.{◌≡◌, ◌+◌, ◌%◌, ◌↔◌, IsSome, IsTrue, Some, IfSome, length};
 ghost use Rattle.std.specs.Option.{option_copied};
 ghost use Rattle.std.specs.FinMap as map;
 ghost use Rattle.cxl_pool.specs.Pool.{frame_bytes, free_count};

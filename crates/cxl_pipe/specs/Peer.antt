@@ -1,5 +1,5 @@
 -- Whether the peer's registers are those of the blocks, word by word.
-use Rattle.std.specs.Prelude.{◌≡◌, ℕ, ◌+◌, ◌*◌, ◌^◌, ◌≤◌, Bool, true, false, List, [], ◌∷◌, ◌++◌, length, map, unwrap_or}
+use Rattle.std.specs.Prelude.{◌≡◌, ℕ, ◌+◌, ◌*◌, ◌^◌, ◌≤◌, true, false, List, [], ◌∷◌, ◌++◌, length, map, unwrap_or}
 use Rattle.std.specs.List.{flat_map, enumerate_from, range_with_len}
 use Rattle.cxl_io.specs.Reader.{fresh_reader}
 use Rattle.cxl_regs.specs.Registers.{Registers}

@@ -1,6 +1,6 @@
 //! The lines that ask for an access.
 
-ghost use Rattle.std.specs.Prelude.{◌≡◌, ◌+◌, ◌≤◌, [], ◌++◌, length, codes, decimal};
+ghost use Rattle.std.specs.Prelude.{◌≡◌, ◌+◌, ◌≤◌, ◌++◌, length, codes, decimal};
 ghost use Rattle.cxl_io.specs.Printed.{hex_of};
 ghost use Rattle.cxl_pipe.specs.Protocol.{question_limit, read_question, write_question};
 

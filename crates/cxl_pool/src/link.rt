@@ -1,6 +1,6 @@
 //! The bytes of a frame: zeros, or the number of the next free frame.
 
-ghost use Rattle.std.specs.Prelude.{◌≡◌, length};
+ghost use Rattle.std.specs.Prelude.{◌≡◌};
 ghost use Rattle.cxl_pool.specs.Chain.{next_of};
 ghost use Rattle.cxl_pool.specs.Pool.{zeros};
 

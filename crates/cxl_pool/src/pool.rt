@@ -1,6 +1,6 @@
 //! The pool: a fixed number of frames, and those that are free.
 
-ghost use Rattle.std.specs.Prelude.{◌≡◌, [], ◌+◌, ◌↔◌, ◌^◌, ◌<◌, length, replicate, slice_set, Some, None, IsNone, IfSome, IfNone, IfOk};
+ghost use Rattle.std.specs.Prelude.{◌≡◌, [], ◌+◌, ◌↔◌, length, replicate, slice_set, Some, None, IsNone, IfSome, IfNone, IfOk};
 ghost use Rattle.std.specs.Borrow.{sem};
 ghost use Rattle.cxl_pool.specs.Pool.{frame_bytes, IsOut, IsFree, free_count, out_count, zeros};
 ghost use Rattle.cxl_pool.specs.Lending.{LendsBytes};

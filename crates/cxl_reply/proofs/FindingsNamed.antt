@@ -2,23 +2,21 @@
 use Rattle.std.proofs.Common.{◌≡◌, ℕ, ◌<◌, ◌≤◌, ◌==◌, nat_lt, ◌&&◌, not, Bool, true, false, cond, List, [], length, get_or, Option, Some, None, refl, sym, ◌∙◌, arith}
 use Rattle.std.specs.List.{slice_get}
 use Rattle.std.specs.Option.{option_map_or}
-use Rattle.std.proofs.lemmas.Bool.{and_parts, false≢true}
+use Rattle.std.proofs.lemmas.Bool.{false≢true}
 use Rattle.std.proofs.lemmas.List.Elements.{All-from_get_or}
 use Rattle.std.proofs.lemmas.Option.{slice_get_within, slice_get-get_or}
 use Rattle.cxl_regs.specs.declared.reading.Range.{Range}
 use Rattle.cxl_regs.specs.Registers.{Registers}
 use Rattle.cxl_regs.specs.declared.decoder.Decoder.{Decoder}
 use Rattle.cxl_span.specs.Breaches.{breaks as block_breaks}
-use Rattle.cxl_topo.specs.Kinds.{is_endpoint}
-use Rattle.cxl_topo.specs.Tree.{is_endpoint_at}
 use Rattle.cxl_model.specs.declared.found.Found.{Found}
 use Rattle.cxl_model.specs.declared.found.Place.{Place}
 use Rattle.cxl_model.specs.System.{System, IsSystem, ram_at, pmem_at}
 use Rattle.cxl_model.specs.Accepted.{breaks, breaks_caps, breaks_block, breaks_at}
 use Rattle.cxl_model.specs.Counts.{is_endpoint_of}
-use Rattle.cxl_model.specs.Ranges.{serves}
 use Rattle.cxl_model.specs.Rules.{keeps_window, keeps_targets, keeps_reach, keeps_ways}
 use Rattle.cxl_model.specs.Regions.{region_range}
+use Rattle.cxl_model.proofs.RangeServers.{endpoint_inside}
 use Rattle.cxl_reply.specs.Conditions.{IsNode, IsToldFound}
 
 -- a test that holds of an item of a list holds within it
@@ -28,17 +26,13 @@ within_list xs n test (Some x) at holds = slice_get_within xs n x (sym at)
 
 -- ---- regions
 
-end_within : (s : System) (r : Range) (m : ℕ) → is_endpoint_of s r m ≡ true → m < length s.nodes
-end_within s r m is =
-    within_list s.nodes m (λ node. is_endpoint node.kind) (slice_get s.nodes m) refl (and_parts (is_endpoint_at s.nodes m) (serves s r m) is).0
-
 pub found_told : (s : System) (found : Found) → found.gran ≤ 6 → ((slot : ℕ) (place : Place) → slice_get found.spans slot ≡ Some place → is_endpoint_of s (region_range found) place.endpoint ≡ true) → IsToldFound s.nodes found
 found_told s found gran endpoints =
     let first : Place = record { endpoint = 0; start = 0 } in
     record {
       gran = gran;
       endpoints = All-from_get_or (λ place. IsNode s.nodes place.endpoint) found.spans first (λ slot within.
-          end_within s (region_range found) (get_or found.spans slot first).endpoint (endpoints slot (get_or found.spans slot first) (slice_get-get_or found.spans slot first within)));
+          endpoint_inside s (region_range found) (get_or found.spans slot first).endpoint (endpoints slot (get_or found.spans slot first) (slice_get-get_or found.spans slot first within)));
     }
 
 -- ---- breaches

@@ -11,7 +11,7 @@ ghost use Rattle.cxl_reply.specs.Plans.{IsToldPlan};
 ghost use Rattle.cxl_reply.specs.Conditions.{IsTold};
 ghost use Rattle.cxl_script.specs.Grammar.{StatesGranCode};
 ghost use Rattle.cxl_request.specs.Plans.{IsPlanFor, IsRefusal};
-ghost use Rattle.cxl_request.specs.Requests.{request_for, want_of, pick_reply, plan_over, plan_unless_unknown, plan_of_line, AsksForPlan};
+ghost use Rattle.cxl_request.specs.Requests.{request_for, want_of, pick_reply, plan_over, plan_of_line, AsksForPlan};
 
 use crate::endpoints::{endpoints_named, unknown_beside};
 use crate::laws::{answered_lines_can_be_told, answers_hold_of_lines};

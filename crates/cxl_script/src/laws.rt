@@ -1,6 +1,6 @@
 //! Laws of lines, each the contract of a function that does nothing.
 
-ghost use Rattle.std.specs.Prelude.{◌≡◌, ℕ, List, Option, Some, Result, Ok, IfOk, IfSome};
+ghost use Rattle.std.specs.Prelude.{◌≡◌, ℕ, List, Some, Ok, IfOk, IfSome};
 ghost use Rattle.cxl_script.specs.declared.command.Command.{Command};
 ghost use Rattle.cxl_script.specs.Grammar.{asked_in, IsRanged, StatesGranCodes};
 

@@ -4,7 +4,7 @@ ghost use Rattle.std.specs.Prelude.{◌≡◌, ◌≤◌, Ok, Err, IfOk, MatchRe
 ghost use Rattle.cxl_enc.specs.Codes.{gran_code_in_table};
 ghost use Rattle.cxl_io.specs.Numbers.{number_of};
 ghost use Rattle.cxl_script.specs.Reading.{IsUnlessMemory, GivesWithRest, GivesWithRestUnlessMemory, word_as_name, word_as_kind, ranged, word_as_bytes, next_word_in, name_in, kind_in, ranged_in, address_in, hex_bytes_in};
-ghost use Rattle.cxl_script.specs.Grammar.{gran_of_bytes, gran_in};
+ghost use Rattle.cxl_script.specs.Grammar.{gran_in};
 
 use crate::digits::{hex_bytes, is_hex};
 use crate::fault::{BadLine, LineFault, Why};

@@ -1,6 +1,6 @@
 //! The words of a line, each with its place.
 
-ghost use Rattle.std.specs.Prelude.{◌≡◌, ◌+◌, ◌<◌, ◌≤◌, [], ◌∷◌, length, drop, not, position, MatchOption, slice_range, Some, None, IsTrue, ◌↔◌};
+ghost use Rattle.std.specs.Prelude.{◌≡◌, ◌<◌, ◌≤◌, [], ◌∷◌, length, drop, not, position, MatchOption, slice_range, Some, None, IsTrue, ◌↔◌};
 ghost use Rattle.std.specs.List.{position_or_len};
 ghost use Rattle.cxl_script.specs.Words.{is_blank, line_words_from, line_words};
 ghost use Rattle.cxl_script.specs.Reading.{behind, ends};

@@ -1,4 +1,4 @@
-use Rattle.std.proofs.Common.{◌≡◌, ◌<◌, ◌≤◌, length, refl, arith, rules, inl}
+use Rattle.std.proofs.Common.{◌≡◌, ◌<◌, length, refl, arith, rules, inl}
 use Rattle.cxl_pipe.proofs.Asking.{leads_from_start, block_told, block_untold, no_node_left, all_told}
 use Rattle.cxl_pipe.proofs.pipe_bus.PipeBus.tells_all.Goals as goal
 

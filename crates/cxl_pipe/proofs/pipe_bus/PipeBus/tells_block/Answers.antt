@@ -1,6 +1,6 @@
 use Rattle.std.proofs.Common.{◌≡◌, ◌*◌, ◌<◌, ◌≤◌, Some, arith, rules}
 use Rattle.cxl_regs.specs.Words.{word_at}
-use Rattle.cxl_pipe.specs.Peer.{words_of, word_count}
+use Rattle.cxl_pipe.specs.Peer.{word_count}
 use Rattle.cxl_pipe.proofs.Asking.{leads_from_start, all_left, word_told, word_untold, none_left, all_told}
 use Rattle.cxl_pipe.proofs.pipe_bus.PipeBus.tells_block.Goals as goal
 
