@@ -9,7 +9,7 @@ ghost use Rattle.cxl_model.specs.Hosts.{as_system};
 ghost use Rattle.cxl_model.specs.Accepted.{IsOrderlySystem};
 ghost use Rattle.cxl_model.specs.Ranges.{ways_above, bits_above, span_kind};
 ghost use Rattle.cxl_model.specs.System.{decoders_at, decoder_at};
-ghost use Rattle.cxl_check.specs.inner.DecoderFacts.{AreDecoderFacts, AreFactsBefore, AreAllFacts, IsSpanOf};
+ghost use Rattle.cxl_check.specs.inner.DecoderFacts.{AreDecoderFacts, AreFactsBefore, AreAllFacts, IsSpanOfDecoder};
 ghost use Rattle.cxl_check.specs.inner.Ready.{IsCommitted};
 
 use crate::above::ports_above;
@@ -91,7 +91,7 @@ fn enter_decoder(
     requires here { node < length host.now.topo.now.nodes }
     requires few { i < 10 }
     requires committed { IsCommitted (as_system host.now) node i d.now }
-    requires span { IsSpanOf (as_system host.now) node i span.now }
+    requires span { IsSpanOfDecoder (as_system host.now) node i span.now }
     requires before { AreFactsBefore (as_system host.now) (10 * node + i) all.old.items }
     ensures { AreFactsBefore (as_system host.now) (10 * node + (i + 1)) all.new.items }
 {

@@ -8,7 +8,7 @@ ghost use Rattle.cxl_model.specs.Hosts.{as_system};
 ghost use Rattle.cxl_model.specs.System.{decoders_at, decoder_at, ram_at, pmem_at};
 ghost use Rattle.cxl_model.specs.Ranges.{span_kind};
 ghost use Rattle.cxl_model.specs.Accepted.{IsOrderlySystem};
-ghost use Rattle.cxl_check.specs.inner.DecoderFacts.{IsTaken, IsSpanOf};
+ghost use Rattle.cxl_check.specs.inner.DecoderFacts.{IsTaken, IsSpanOfDecoder};
 ghost use Rattle.cxl_check.specs.inner.Ready.{IsCommitted};
 
 use cxl_enc::MemKind;
@@ -40,7 +40,7 @@ pub(crate) fn span_behind(
     requires ram { capacity.now.ram ≡ ram_at (as_system host.now) node }
     requires pmem { capacity.now.pmem ≡ pmem_at (as_system host.now) node }
     requires taken { IsTaken (as_system host.now) node i taken }
-    ensures { IsSpanOf (as_system host.now) node i result }
+    ensures { IsSpanOfDecoder (as_system host.now) node i result }
 {
     spans_lie_in_partitions();
     if !host.topo.is_endpoint(node) {

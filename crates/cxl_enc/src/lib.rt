@@ -25,4 +25,4 @@ pub use fixed_list::FixedList;
 pub use limits::{
     ADDRESS_LIMIT, BRIDGE_LIMIT, FILE_LIMIT, FRAME_LIMIT, NODE_LIMIT, PLACEHOLDER_CAP, UNIT,
 };
-pub use name::Name;
+pub use name::{Name, place_among};

@@ -1,7 +1,8 @@
 //! The names of nodes and regions.
 
-ghost use Rattle.std.specs.Prelude.{◌≡◌, ◌↔◌, IsTrue, IsSome, IfSome};
+ghost use Rattle.std.specs.Prelude.{◌≡◌, ◌↔◌, IsTrue, IsSome, IfSome, position};
 ghost use Rattle.std.specs.List.{list_all};
+ghost use Rattle.std.specs.Str.{bytes_eq};
 ghost use Rattle.cxl_enc.specs.Name.{IsName, is_name, is_name_byte};
 
 use std::marker::Model;
@@ -54,6 +55,13 @@ impl Name {
         })
     }
 
+    /// Whether this is the same name.
+    pub fn is_same(&self, other: &Name) -> bool
+        ensures { result ≡ bytes_eq self.now other.now }
+    {
+        self.bytes() == other.bytes()
+    }
+
     /// The bytes of the name.
     pub fn bytes(&self) -> &[u8]
         ensures value { result.now ≡ self.now }
@@ -61,6 +69,13 @@ impl Name {
     {
         &self.room[..self.len as usize]
     }
+}
+
+/// The place of a name among others.
+pub fn place_among(names: &[Name], name: &Name) -> Option<usize>
+    ensures { result ≡ position (λ own. bytes_eq own name.now) names.now }
+{
+    names.iter().position(|own| own.is_same(name))
 }
 
 fn is_name(bytes: &[u8]) -> bool

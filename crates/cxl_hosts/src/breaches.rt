@@ -7,7 +7,7 @@ use crate::host_texts::{
     OVER_ONE, OVER_TWO, TWO_BY_ONE, TWO_BY_TWO, TWO_FORWARDING, TWO_WAYS, TWO_WAYS_BELOW,
 };
 use crate::hosts::{Worked, host_of};
-use crate::rows::{are_written, has_passed};
+use crate::rows::{are_written, row_passes};
 use cxl_check::{Breach, CheckFault, Found, breaches, check};
 use cxl_enc::MemKind;
 use cxl_image::{Image, read_image, write_image};
@@ -89,7 +89,7 @@ fn is_breach(rt: &impl Abort, alloc: Global, row: &Row) -> bool {
 #[test]
 fn first_breaches(rt: HostRuntime) {
     for row in ROWS.iter() {
-        has_passed(&rt, row.name, is_breach(&rt, rt.alloc(), row));
+        row_passes(&rt, row.name, is_breach(&rt, rt.alloc(), row));
     }
 }
 
@@ -335,7 +335,7 @@ fn are_places(rt: &impl Abort, alloc: Global, row: &Places) -> bool {
 #[test]
 fn all_places(rt: HostRuntime) {
     for row in PLACES.iter() {
-        has_passed(&rt, row.name, are_places(&rt, rt.alloc(), row));
+        row_passes(&rt, row.name, are_places(&rt, rt.alloc(), row));
     }
 }
 

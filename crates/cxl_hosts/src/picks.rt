@@ -6,7 +6,7 @@ ghost use Rattle.cxl_window.specs.Windows.{AreMadeWith};
 
 use crate::host_texts::{BELOW_TWO_SWITCHES, FOUR_WAYS, OVER_TWO_LONG, TWO_BY_TWO};
 use crate::hosts::{Worked, host_of};
-use crate::rows::{has_passed, shows};
+use crate::rows::{row_passes, shows};
 use cxl_check::check;
 use cxl_enc::MemKind;
 use cxl_pick::{PickFault, Want, pick};
@@ -49,7 +49,7 @@ fn is_picked(rt: &impl Abort, alloc: Global, row: &Row) -> bool {
 #[test]
 fn picks(rt: HostRuntime) {
     for row in ROWS.iter() {
-        has_passed(&rt, row.name, is_picked(&rt, rt.alloc(), row));
+        row_passes(&rt, row.name, is_picked(&rt, rt.alloc(), row));
     }
 }
 

@@ -4,7 +4,7 @@ use crate::host_texts::{
     OVER_THREE_LONG, OVER_TWO, OVER_TWO_LONG, THREE_BY_TWO, TWO_BY_ONE, TWO_BY_TWO, TWO_FORWARDING,
 };
 use crate::plans::{Asked, planned_over};
-use crate::rows::{are_written, has_passed};
+use crate::rows::{are_written, row_passes};
 use cxl_enc::MemKind;
 use cxl_model::{Place, Row};
 use std::alloc::Global;
@@ -68,7 +68,7 @@ fn has_rows(rt: &impl Abort, alloc: Global, row: &RowsWanted) -> bool {
 #[test]
 fn rows(rt: HostRuntime) {
     for row in ROWS.iter() {
-        has_passed(&rt, row.name, has_rows(&rt, rt.alloc(), row));
+        row_passes(&rt, row.name, has_rows(&rt, rt.alloc(), row));
     }
 }
 

@@ -10,7 +10,7 @@ use crate::host_texts::{
     RAM_THEN_PMEM, THREE_BY_ONE, TWO_BY_TWO,
 };
 use crate::hosts::{Worked, host_of};
-use crate::rows::{are_written, has_passed, numbers, shows};
+use crate::rows::{are_written, numbers, row_passes, shows};
 use cxl_check::check;
 use cxl_enc::{FixedList, MemKind, Name};
 use cxl_model::{Plan, PlanFault, Request};
@@ -128,7 +128,7 @@ fn is_plan(rt: &impl Abort, alloc: Global, plan: &Plan, text: &str) -> bool {
 #[test]
 fn answers(rt: HostRuntime) {
     for row in ANSWERS.iter() {
-        has_passed(&rt, row.name, is_answer(&rt, rt.alloc(), row));
+        row_passes(&rt, row.name, is_answer(&rt, rt.alloc(), row));
     }
 }
 

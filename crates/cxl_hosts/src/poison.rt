@@ -8,7 +8,7 @@ use crate::host_texts::{
     THREE_BY_TWO, TWO_BY_ONE, TWO_WAYS,
 };
 use crate::hosts::{Worked, host_of};
-use crate::rows::{are_written, has_passed};
+use crate::rows::{are_written, row_passes};
 use cxl_check::check;
 use cxl_image::Image;
 use cxl_model::hosts_with_caps_are_systems;
@@ -108,7 +108,7 @@ fn is_told_over(rt: &impl Abort, alloc: Global, host: &Worked, row: &Row) -> boo
 #[test]
 fn poison(rt: HostRuntime) {
     for row in ROWS.iter() {
-        has_passed(&rt, row.name, is_told(&rt, rt.alloc(), row));
+        row_passes(&rt, row.name, is_told(&rt, rt.alloc(), row));
     }
 }
 

@@ -11,7 +11,7 @@ use crate::host_texts::{
     THREE_BY_ONE, THREE_WAYS, TWO_BY_ONE, TWO_BY_TWO, TWO_WAYS,
 };
 use crate::hosts::{Worked, host_of};
-use crate::rows::{are_written, has_passed, numbers};
+use crate::rows::{are_written, numbers, row_passes};
 use cxl_check::check;
 use cxl_model::{Extent, Found, regions_lie_in_windows};
 use cxl_range::{extents, spread};
@@ -131,7 +131,7 @@ fn is_told(rt: &impl Abort, alloc: Global, row: &Row) -> bool {
 #[test]
 fn reaches(rt: HostRuntime) {
     for row in ROWS.iter() {
-        has_passed(&rt, row.name, is_told(&rt, rt.alloc(), row));
+        row_passes(&rt, row.name, is_told(&rt, rt.alloc(), row));
     }
 }
 

@@ -46,6 +46,6 @@ pub(crate) fn shows<T: Debug>(alloc: Global, value: &T, text: &str) -> bool {
 }
 
 /// Checks that the row of this name is right.
-pub(crate) fn has_passed(rt: &impl Abort, name: &str, right: bool) {
+pub(crate) fn row_passes(rt: &impl Abort, name: &str, right: bool) {
     assert!(rt; right, "row {name}");
 }

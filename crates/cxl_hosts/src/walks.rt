@@ -14,7 +14,7 @@ use crate::host_texts::{
     TWO_FORWARDING, TWO_WAYS, TWO_WAYS_BELOW,
 };
 use crate::hosts::{Worked, host_of};
-use crate::rows::{as_byte, as_word, at, has_passed, numbers, shows};
+use crate::rows::{as_byte, as_word, at, numbers, row_passes, shows};
 use cxl_check::{Breach, check};
 use cxl_model::{Found, Step};
 use cxl_walk::{HostByte, Kept, Route, down, up};
@@ -150,7 +150,7 @@ fn is_routed(rt: &impl Abort, alloc: Global, row: &Row) -> bool {
 #[test]
 fn routes(rt: HostRuntime) {
     for row in ROUTES.iter() {
-        has_passed(&rt, row.name, is_routed(&rt, rt.alloc(), row));
+        row_passes(&rt, row.name, is_routed(&rt, rt.alloc(), row));
     }
 }
 
@@ -281,7 +281,7 @@ fn is_missed(rt: &impl Abort, alloc: Global, row: &Row) -> bool {
 #[test]
 fn misses(rt: HostRuntime) {
     for row in MISSES.iter() {
-        has_passed(&rt, row.name, is_missed(&rt, rt.alloc(), row));
+        row_passes(&rt, row.name, is_missed(&rt, rt.alloc(), row));
     }
 }
 
@@ -366,7 +366,7 @@ fn is_back(rt: &impl Abort, alloc: Global, row: &Back) -> bool {
 #[test]
 fn ways_back(rt: HostRuntime) {
     for row in BACK.iter() {
-        has_passed(&rt, row.name, is_back(&rt, rt.alloc(), row));
+        row_passes(&rt, row.name, is_back(&rt, rt.alloc(), row));
     }
 }
 

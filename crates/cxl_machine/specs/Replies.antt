@@ -4,7 +4,7 @@ use Rattle.std.specs.Option.{option_map_or}
 use Rattle.cxl_model.specs.declared.found.Found.{Found}
 use Rattle.cxl_reply.specs.declared.reply.Reply.{Reply}
 use Rattle.cxl_reply.specs.declared.reply.Reply.TheVariants as replies
-pub use Rattle.cxl_request.specs.Endpoints.{endpoint_named}
+pub use Rattle.cxl_topo.specs.Tree.{endpoint_named}
 use Rattle.cxl_machine.specs.Machine.{Live, Machine, live_named, live_at}
 use Rattle.cxl_machine.specs.Outcomes.{BusOutcome, NoFault}
 

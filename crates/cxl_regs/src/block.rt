@@ -1,6 +1,6 @@
 //! An HDM decoder block, as the words that are read and written of it.
 
-ghost use Rattle.std.specs.Prelude.{◌≡◌, ◌<◌, ◌≤◌, ◌+◌, ◌-◌, ◌*◌, ◌/◌, ◌%◌, ◌↔◌, true, IsTrue, IsSome, Some, length, IfOk, IfSome, slice_get};
+ghost use Rattle.std.specs.Prelude.{◌≡◌, ◌<◌, ◌≤◌, ◌+◌, ◌-◌, ◌/◌, ◌%◌, ◌↔◌, true, IsTrue, IsSome, Some, length, drop, IfOk, IfSome, slice_get};
 ghost use Rattle.cxl_enc.specs.Caps.{is_legal_cap};
 ghost use Rattle.cxl_regs.specs.declared.decoder.Decoder.{Decoder};
 ghost use Rattle.cxl_regs.specs.Registers.{Registers, IsBlock, IsDecoder, IsSameShape, reset_block};
@@ -121,6 +121,17 @@ impl Block {
             .iter()
             .take_while(|d| d.committed)
             .count() as u8
+    }
+
+    /// Whether a decoder above this index is committed.
+    pub fn has_committed_above(&self, index: u8) -> bool
+        ensures { result ≡ any_committed (drop (index + 1) self.now.decoders) }
+    {
+        self.decoders
+            .as_slice()
+            .iter()
+            .skip(index as usize + 1)
+            .any(|d| d.committed)
     }
 
     /// The registers of decoder `i`.

@@ -1,13 +1,8 @@
 -- The endpoints that a line names (this project's rules).
-use Rattle.std.specs.Prelude.{ℕ, ◌&&◌, List, find, position, Option, is_none}
+use Rattle.std.specs.Prelude.{ℕ, List, find, Option, is_none}
 use Rattle.std.specs.List.{filter_map}
 use Rattle.cxl_topo.specs.declared.node.Node.{Node}
-use Rattle.cxl_topo.specs.Kinds.{is_endpoint}
-use Rattle.cxl_topo.specs.Tree.{is_named}
-
--- the endpoint that has this name
-abbrev pub endpoint_named : List Node → List ℕ → Option ℕ
-endpoint_named nodes name = position (λ node. is_endpoint node.kind && is_named name node) nodes
+use Rattle.cxl_topo.specs.Tree.{endpoint_named}
 
 -- the first of these names that no endpoint has
 abbrev pub first_unknown : List Node → List (List ℕ) → Option (List ℕ)

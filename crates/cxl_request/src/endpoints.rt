@@ -1,27 +1,11 @@
-//! Endpoints by their names.
+//! The endpoints that a line names.
 
-ghost use Rattle.std.specs.Prelude.{◌≡◌, None, Some, if◌then◌else◌, option_and_then, IfOk};
-ghost use Rattle.cxl_topo.specs.Tree.{node_named, is_endpoint_at};
-ghost use Rattle.cxl_request.specs.Endpoints.{endpoint_named, first_unknown, endpoints_named};
+ghost use Rattle.std.specs.Prelude.{◌≡◌, IfOk};
+ghost use Rattle.cxl_request.specs.Endpoints.{first_unknown, endpoints_named};
 
 use cxl_enc::{Memory, Name};
 use cxl_topo::Topo;
 use std::alloc::Global;
-
-/// The endpoint that has this name.
-pub fn endpoint_named(topo: &Topo, name: &Name) -> Option<u32>
-    ensures endpoint { result ≡ endpoint_named topo.now.nodes name.now }
-    // No two nodes have one name: it is the node of this name, where that is an endpoint.
-    ensures node { result ≡ option_and_then (λ n. if is_endpoint_at topo.now.nodes n then Some n else None)
-        (node_named topo.now.nodes name.now) }
-{
-    let node = topo.find(name)?;
-    if topo.is_endpoint(node) {
-        Some(node)
-    } else {
-        None
-    }
-}
 
 /// The first of these names that no endpoint has.
 pub fn first_unknown(topo: &Topo, names: &[Name]) -> Option<Name>
@@ -30,7 +14,7 @@ pub fn first_unknown(topo: &Topo, names: &[Name]) -> Option<Name>
     names
         .iter()
         .copied()
-        .find(|name| endpoint_named(topo, name).is_none())
+        .find(|name| topo.endpoint(name).is_none())
 }
 
 /// The endpoints that have one of these names, in their order. Takes memory.
@@ -43,7 +27,7 @@ pub(crate) fn endpoints_named(
 {
     let endpoints = names
         .iter()
-        .filter_map(|name| endpoint_named(topo, name))
+        .filter_map(|name| topo.endpoint(name))
         .collect(alloc)?;
     Ok(endpoints)
 }

@@ -9,7 +9,7 @@ ghost use Rattle.cxl_session.specs.Standing.{Stands, StandsFor};
 
 use crate::guest_stores::windows_of;
 use crate::host_files::ONE_FRAME;
-use crate::rows::{changed, has_passed};
+use crate::rows::{changed, row_passes};
 use crate::scripts::Script;
 use crate::tables::TWO_BRIDGES;
 use cxl_bus::{FailingBus, Regs, SimBus};
@@ -364,7 +364,7 @@ fn all_keep<R: Regs, M: Roll>(
     let mut session = opened(rt, alloc, &HOST, regs, media).expect(rt, "a session");
     for row in rows {
         replies(rt, alloc, &mut session, row.line, regs, media);
-        has_passed(rt, row.line, keeps(&session, row));
+        row_passes(rt, row.line, keeps(&session, row));
     }
 }
 

@@ -5,7 +5,7 @@ use crate::host_files::{
     TWO_ENDPOINTS, TWO_ENDPOINTS_FORWARDED,
 };
 use crate::rows::Change::{self, Len, Word};
-use crate::rows::{bytes, changed, ends, files_of, has_passed, words_of};
+use crate::rows::{bytes, changed, ends, files_of, row_passes, words_of};
 use crate::tables::{THREE_BRIDGES, TWO_BRIDGES, TWO_WINDOWS};
 use std::alloc::Global;
 use std::process::Abort;
@@ -41,7 +41,7 @@ fn is_checked(rt: &impl Abort, alloc: Global, row: &Row) -> bool {
 /// Checks each row.
 pub(crate) fn are_checked(rt: &(impl Abort + AllocGlobal), rows: &[Row]) {
     for row in rows {
-        has_passed(rt, row.name, is_checked(rt, rt.alloc(), row));
+        row_passes(rt, row.name, is_checked(rt, rt.alloc(), row));
     }
 }
 

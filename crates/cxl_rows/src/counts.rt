@@ -3,7 +3,7 @@
 ghost use Rattle.std.specs.Prelude.{true, None};
 
 use crate::host_files::TWO_ENDPOINTS;
-use crate::rows::{ROOM, bytes, files_of, has_passed, sink_of, words_of};
+use crate::rows::{ROOM, bytes, files_of, row_passes, sink_of, words_of};
 use crate::tables::TWO_BRIDGES;
 use cxl_bus::{Regs, SimBus};
 use cxl_enc::{Failed, Memory};
@@ -122,6 +122,6 @@ fn counts(rt: &impl Abort, alloc: Global, row: &Count) -> bool {
 #[test]
 fn calls_of_the_bus(rt: HostRuntime) {
     for row in COUNTS.iter() {
-        has_passed(&rt, row.name, counts(&rt, rt.alloc(), row));
+        row_passes(&rt, row.name, counts(&rt, rt.alloc(), row));
     }
 }

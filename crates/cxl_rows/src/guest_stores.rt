@@ -4,7 +4,7 @@ ghost use Rattle.cxl_image.specs.Images.{HasCapsOf};
 ghost use Rattle.cxl_model.specs.System.{bridge_uids};
 ghost use Rattle.cxl_window.specs.Windows.{AreMadeWith};
 
-use crate::rows::{bytes, has_passed};
+use crate::rows::{bytes, row_passes};
 use crate::{real_hosts, real_images, stores};
 use cxl_cedt::read;
 use cxl_image::{Image, read_image};
@@ -120,7 +120,7 @@ fn are_led(rt: &impl Abort, alloc: Global, row: &Row) -> bool {
 /// Checks each row.
 fn all_are_led(rt: &(impl Abort + AllocGlobal), rows: &[Row]) {
     for row in rows {
-        has_passed(rt, row.name, are_led(rt, rt.alloc(), row));
+        row_passes(rt, row.name, are_led(rt, rt.alloc(), row));
     }
 }
 

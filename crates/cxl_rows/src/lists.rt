@@ -1,7 +1,7 @@
 //! Worked rows of `list` and `normal`: the verdicts of tables, and their normal forms.
 
 use crate::rows::Change::{self, Byte, Len};
-use crate::rows::{Row, answers, are_answered, bytes, changed, has_passed, has_passed_at};
+use crate::rows::{Row, answers, are_answered, bytes, changed, row_passes, row_passes_at};
 use crate::tables::{TWO_BRIDGES, TWO_BRIDGES_XOR};
 use crate::{listings, real_tables};
 use std::alloc::Global;
@@ -205,7 +205,7 @@ fn is_normal(rt: &impl Abort, alloc: Global, row: &NormalForm) -> bool {
 #[test]
 fn normal_forms(rt: HostRuntime) {
     for row in NORMAL_FORMS.iter() {
-        has_passed(&rt, row.name, is_normal(&rt, rt.alloc(), row));
+        row_passes(&rt, row.name, is_normal(&rt, rt.alloc(), row));
     }
 }
 
@@ -286,6 +286,6 @@ fn is_front(rt: &impl Abort, alloc: Global, n: usize) -> bool {
 #[test]
 fn fronts(rt: HostRuntime) {
     for n in 0..144 {
-        has_passed_at(&rt, "front of length", n, is_front(&rt, rt.alloc(), n));
+        row_passes_at(&rt, "front of length", n, is_front(&rt, rt.alloc(), n));
     }
 }

@@ -2,7 +2,7 @@
 
 use crate::routes::repeated;
 use crate::rows::Change::{Byte, Word};
-use crate::rows::{bytes, ends, files_of, has_passed, put_changes, words_of};
+use crate::rows::{bytes, ends, files_of, put_changes, row_passes, words_of};
 use std::alloc::Global;
 use std::process::Abort;
 
@@ -92,7 +92,7 @@ fn openings(rt: HostRuntime) {
         let image = image(&rt, alloc, regions);
         let mut files = files_of(&rt, alloc, table(&rt, alloc), &topology, image, 0);
         let words = words_of(&rt, alloc, "run table topology image");
-        has_passed(
+        row_passes(
             &rt,
             name,
             ends(&rt, alloc, &words, &mut files, code, text.as_bytes()),

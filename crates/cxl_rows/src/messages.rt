@@ -1,6 +1,6 @@
 //! The messages of errors that are derived: one for each cause.
 
-use crate::rows::has_passed;
+use crate::rows::row_passes;
 use cxl_cedt::CedtFault;
 use cxl_image::ImageFault;
 use cxl_topo::TreeFault;
@@ -25,7 +25,7 @@ fn is_said<T: Display>(alloc: Global, fault: &T, text: &str) -> bool {
 #[test]
 fn of_tables(rt: HostRuntime) {
     for (fault, text) in OF_TABLES.iter() {
-        has_passed(&rt, *text, is_said(rt.alloc(), fault, *text));
+        row_passes(&rt, *text, is_said(rt.alloc(), fault, *text));
     }
 }
 
@@ -67,7 +67,7 @@ const OF_TABLES: [(CedtFault, &str); 11] = [
 #[test]
 fn of_images(rt: HostRuntime) {
     for (fault, text) in OF_IMAGES.iter() {
-        has_passed(&rt, *text, is_said(rt.alloc(), fault, *text));
+        row_passes(&rt, *text, is_said(rt.alloc(), fault, *text));
     }
 }
 
@@ -92,7 +92,7 @@ const OF_IMAGES: [(ImageFault, &str); 6] = [
 #[test]
 fn of_topologies(rt: HostRuntime) {
     for (fault, text) in OF_TOPOLOGIES.iter() {
-        has_passed(&rt, *text, is_said(rt.alloc(), fault, *text));
+        row_passes(&rt, *text, is_said(rt.alloc(), fault, *text));
     }
 }
 

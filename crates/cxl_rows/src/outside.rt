@@ -2,7 +2,7 @@
 
 use crate::routes::repeated;
 use crate::rows::{
-    ROOM, Row, are_answered, bytes, code_of_run, ends, files_of, has_passed, sink_of, table_file,
+    ROOM, Row, are_answered, bytes, code_of_run, ends, files_of, row_passes, sink_of, table_file,
     words_of,
 };
 use crate::tables::{HEADER_OF_OTHERS, HEADER_OF_WHOLE_BLOCK, TWO_BRIDGES};
@@ -328,7 +328,7 @@ fn unread_file(rt: HostRuntime) {
 #[test]
 fn help_of_forms(rt: HostRuntime) {
     for form in FORMS.iter() {
-        has_passed(&rt, *form, HELP.contains(*form));
+        row_passes(&rt, *form, HELP.contains(*form));
     }
 }
 
@@ -364,7 +364,7 @@ fn fails_behind(rt: &impl Abort, alloc: Global, row: &SinkRow) -> bool {
 #[test]
 fn sinks(rt: HostRuntime) {
     for row in SINKS.iter() {
-        has_passed(&rt, row.name, fails_behind(&rt, rt.alloc(), row));
+        row_passes(&rt, row.name, fails_behind(&rt, rt.alloc(), row));
     }
 }
 

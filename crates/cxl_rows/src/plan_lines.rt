@@ -4,7 +4,7 @@ use crate::host_files::{
     FOUR_ENDPOINTS, NO_RAM_IN_THE_FIRST, TWO_ENDPOINTS, TWO_ENDPOINTS_FORWARDED,
 };
 use crate::rows::Change::{self, Len};
-use crate::rows::{changed, ends, files_of, has_passed, put_word, words_of};
+use crate::rows::{changed, ends, files_of, put_word, row_passes, words_of};
 use crate::tables::{
     FOUR_WINDOWS, ONE_BRIDGE, SERVER, THREE_BRIDGES, TWO_BRIDGES, TWO_BRIDGES_WIDE,
 };
@@ -127,7 +127,7 @@ fn is_planned(rt: &impl Abort, alloc: Global, row: &Row, changes: &[Change], fai
 
 fn are_planned(rt: &(impl Abort + AllocGlobal), rows: &[Row]) {
     for row in rows {
-        has_passed(rt, row.name, is_planned(rt, rt.alloc(), row, &[], 0));
+        row_passes(rt, row.name, is_planned(rt, rt.alloc(), row, &[], 0));
     }
 }
 
@@ -394,7 +394,7 @@ fn asks_for_none(rt: &impl Abort, alloc: Global, line: &'static str) -> bool {
 #[test]
 fn lines(rt: HostRuntime) {
     for (name, line) in NO_CREATE.iter() {
-        has_passed(&rt, *name, asks_for_none(&rt, rt.alloc(), *line));
+        row_passes(&rt, *name, asks_for_none(&rt, rt.alloc(), *line));
     }
 }
 
@@ -448,7 +448,7 @@ fn ends_with_fault(rt: &impl Abort, alloc: Global, fault: &FileFault) -> bool {
 #[test]
 fn files_in_order(rt: HostRuntime) {
     for fault in IN_ORDER.iter() {
-        has_passed(&rt, fault.name, ends_with_fault(&rt, rt.alloc(), fault));
+        row_passes(&rt, fault.name, ends_with_fault(&rt, rt.alloc(), fault));
     }
 }
 

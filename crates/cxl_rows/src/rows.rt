@@ -189,18 +189,18 @@ fn is_answered(rt: &impl Abort, alloc: Global, row: &Row) -> bool {
 }
 
 /// Checks that the row of this name is right.
-pub(crate) fn has_passed(rt: &impl Abort, name: &str, right: bool) {
+pub(crate) fn row_passes(rt: &impl Abort, name: &str, right: bool) {
     assert!(rt; right, "row {name}");
 }
 
 /// The same of a row that is one of many alike, by its number.
-pub(crate) fn has_passed_at(rt: &impl Abort, name: &str, number: usize, right: bool) {
+pub(crate) fn row_passes_at(rt: &impl Abort, name: &str, number: usize, right: bool) {
     assert!(rt; right, "row {name} {number}");
 }
 
 /// Checks each row.
 pub(crate) fn are_answered(rt: &(impl Abort + AllocGlobal), rows: &[Row]) {
     for row in rows {
-        has_passed(rt, row.name, is_answered(rt, rt.alloc(), row));
+        row_passes(rt, row.name, is_answered(rt, rt.alloc(), row));
     }
 }

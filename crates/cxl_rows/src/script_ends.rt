@@ -2,7 +2,7 @@
 //! one write. And a region that is made and ended a thousand times.
 
 use crate::host_files::{ONE_FRAME, TWO_ENDPOINTS};
-use crate::rows::{ROOM, bytes, files_of, has_passed_at, sink_of, words_of};
+use crate::rows::{ROOM, bytes, files_of, row_passes_at, sink_of, words_of};
 use crate::tables::TWO_BRIDGES;
 use cxl_bus::{FailingBus, Sent};
 use cxl_io::{MemSink, MemSource, Source};
@@ -98,7 +98,7 @@ fn is_written(rt: &impl Abort, alloc: Global, bytes: &[u8], code: u8, replies: u
 fn sink_fails_at_each_write(rt: HostRuntime) {
     for write in 1..41 {
         let right = ends(&rt, rt.alloc(), 0, write, 6, write as usize - 1);
-        has_passed_at(&rt, "failing write", write as usize, right);
+        row_passes_at(&rt, "failing write", write as usize, right);
     }
 }
 
@@ -107,7 +107,7 @@ fn sink_fails_at_each_write(rt: HostRuntime) {
 fn source_fails_at_each_read(rt: HostRuntime) {
     for read in 1..4 {
         let replies = (read as usize - 1) * 4_096 / LINE.len();
-        has_passed_at(
+        row_passes_at(
             &rt,
             "failing read",
             read as usize,
@@ -177,7 +177,7 @@ fn goes_back_and_on(trail: &[Sent], made: usize) -> bool {
 #[test]
 fn each_write_of_a_create_fails(rt: HostRuntime) {
     for call in 3..35 {
-        has_passed_at(
+        row_passes_at(
             &rt,
             "failing call",
             call as usize,

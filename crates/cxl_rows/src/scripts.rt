@@ -7,7 +7,7 @@ use crate::host_files::{
     TWELVE_ENDPOINTS, TWO_ENDPOINTS, TWO_ENDPOINTS_FORWARDED,
 };
 use crate::rows::Change::{self, Word};
-use crate::rows::{ROOM, bytes, changed, files_of, has_passed, sink_of, words_of};
+use crate::rows::{ROOM, bytes, changed, files_of, row_passes, sink_of, words_of};
 use crate::tables::{
     ONE_BRIDGE, SERVER, SIX_BRIDGES, SIX_BRIDGES_XOR, THREE_BRIDGES, THREE_BRIDGES_SMALL,
     TWO_BRIDGES, TWO_BRIDGES_XOR, TWO_WINDOWS,
@@ -77,15 +77,15 @@ fn comes_to<M: Roll>(rt: &impl Abort, alloc: Global, script: &Script, media: &mu
 /// Checks each script, as a run and command by command.
 pub(crate) fn come_to(rt: &(impl Abort + AllocGlobal), scripts: &[Script]) {
     for script in scripts {
-        has_passed(
+        row_passes(
             rt,
             script.name,
             comes_to_by_commands(rt, rt.alloc(), script),
         );
         let mut sim = SimMedia::new(rt.alloc());
-        has_passed(rt, script.name, comes_to(rt, rt.alloc(), script, &mut sim));
+        row_passes(rt, script.name, comes_to(rt, rt.alloc(), script, &mut sim));
         let mut map = MapMedia::new(rt.alloc());
-        has_passed(rt, script.name, comes_to(rt, rt.alloc(), script, &mut map));
+        row_passes(rt, script.name, comes_to(rt, rt.alloc(), script, &mut map));
     }
 }
 

@@ -4,7 +4,7 @@ ghost use Rattle.cxl_session.specs.Standing.{Stands};
 
 use crate::acts::{HOST, is_answered, opened, replies};
 use crate::host_files::TWO_ENDPOINTS;
-use crate::rows::has_passed_at;
+use crate::rows::row_passes_at;
 use crate::scripts::Script;
 use crate::tables::TWO_WINDOWS;
 use cxl_bus::{FailingBus, Regs, SimBus};
@@ -262,7 +262,7 @@ fn is_left_pending_in<R: Regs, M: Roll>(
 fn fails_at_each<M: Roll>(rt: &impl Abort, alloc: Global, writing: &Writing, media: &mut M) {
     for write in 0..writing.writes {
         let left = write == 0 || is_left_pending(rt, alloc, writing, write, media);
-        has_passed_at(
+        row_passes_at(
             rt,
             writing.name,
             write as usize,

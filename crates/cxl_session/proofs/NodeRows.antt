@@ -1,26 +1,21 @@
 -- The rows of a region's decoders, found node by node.
-use Rattle.std.proofs.Common.{◌≡◌, ℕ, zero, suc, ◌+◌, ◌≤◌, Bool, true, false, List, [], ◌∷◌, length, drop, Option, Some, None, refl, sym, ap, ◌∙◌, inl, inr, arith}
-use Rattle.std.specs.Prelude.{slice_get, option_map, option_and_then}
+use Rattle.std.proofs.Common.{◌≡◌, ℕ, List, [], ◌∷◌, length, Option, Some, None, refl, sym, ap, ◌∙◌, inl, inr}
+use Rattle.std.specs.Prelude.{option_map, option_and_then}
 use Rattle.std.specs.List.{filter_map, cons_option, range_with_len}
 use Rattle.std.proofs.lemmas.Bool.{cases_Bool}
-use Rattle.std.specs.Option.{option_map_or}
-use Rattle.std.proofs.lemmas.Option.{none-some, same_Some, slice_get_past}
-use Rattle.cxl_enc.proofs.Tests.{or_true}
 use Rattle.cxl_regs.specs.declared.decoder.Decoder.{Decoder}
 use Rattle.cxl_regs.specs.declared.reading.Range.{Range}
-use Rattle.cxl_regs.specs.Registers.{Registers}
-use Rattle.cxl_regs.specs.Writes.{any_committed}
 use Rattle.cxl_model.specs.declared.plan.Row.{Row}
 use Rattle.cxl_model.specs.declared.found.Found.{Found}
 use Rattle.cxl_model.specs.Ranges.{serves}
 use Rattle.cxl_model.specs.Regions.{region_range}
 use Rattle.cxl_model.proofs.RangeRules.{served}
 use Rattle.cxl_apply.specs.Releases.{row_for, rows_of}
-use Rattle.cxl_model.specs.System.{System, blocks_alone, decoder_at}
+use Rattle.cxl_model.specs.System.{System, decoder_at}
 use Rattle.cxl_walk.specs.declared.own.Own.{Own}
 use Rattle.cxl_walk.specs.Keeping.{own_for, own_decoders}
 use Rattle.cxl_walk.proofs.Slots.{own_there, own_nowhere, no_index}
-use Rattle.cxl_session.specs.inner.Rows.{is_not_last, row_at}
+use Rattle.cxl_session.specs.inner.Rows.{row_at}
 
 -- ---- the rows of own decoders
 
@@ -49,34 +44,3 @@ module _ (s : System) (found : Found) where
 
   pub rows_are : (own : List Own) (rows : List Row) → own ≡ own_decoders s found → rows ≡ filter_map (row_at s.blocks) own → rows ≡ rows_of s found
   rows_are own rows is are = are ∙ ap (filter_map (row_at s.blocks)) is ∙ chained (own_for s range) (row_at s.blocks) (row_for s range) row_told (range_with_len 0 (length s.nodes))
-
--- ---- committed decoders behind a place
-
-pub some_behind : (ds : List Decoder) (from k : ℕ) (d : Decoder) → from ≤ k → slice_get ds k ≡ Some d → d.committed ≡ true → any_committed (drop from ds) ≡ true
-some_behind [] from k d low at is = absurd (none-some d at)
-some_behind (e ∷ ds) zero zero d low at is = rw (ap (λ (x : Decoder). x.committed) (same_Some e d at) ∙ is) refl
-some_behind (e ∷ ds) zero (suc k) d low at is = rw (some_behind ds zero k d (omega arith) at is) (or_true e.committed)
-some_behind (e ∷ ds) (suc from) zero d low at is = absurd (omega arith)
-some_behind (e ∷ ds) (suc from) (suc k) d low at is = some_behind ds from k d (omega arith) at is
-
-pub none_behind : (ds : List Decoder) (from : ℕ) → ((k : ℕ) (d : Decoder) → from ≤ k → slice_get ds k ≡ Some d → d.committed ≡ false) → any_committed (drop from ds) ≡ false
-none_behind [] zero none = refl
-none_behind [] (suc from) none = refl
-none_behind (e ∷ ds) zero none = rw (none zero e (omega arith) refl) (none_behind ds zero (λ k d low at. none (suc k) d (omega arith) at))
-none_behind (e ∷ ds) (suc from) none = none_behind ds from (λ k d low at. none (suc k) d (omega arith) at)
-
--- ---- a row's node
-
-module _ (blocks : List Registers) (row : Row) where
-  abbrev above : Option Registers → Bool
-  above o = any_committed (drop (row.index + 1) (option_map_or (λ (b : Registers). b.decoders) o []))
-
-  pub last_past : length blocks ≤ row.node → is_not_last (blocks_alone blocks) row ≡ false
-  last_past past = ap above (slice_get_past blocks row.node past) ∙ nothing (row.index + 1)
-    where
-      nothing : (k : ℕ) → any_committed (drop k []) ≡ false
-      nothing zero = refl
-      nothing (suc k) = refl
-
-  pub last_in : (block : Registers) → slice_get blocks row.node ≡ Some block → is_not_last (blocks_alone blocks) row ≡ any_committed (drop (row.index + 1) block.decoders)
-  last_in block here = ap above here

@@ -1,6 +1,6 @@
 //! Where host bytes lie, and the bytes themselves: by the kept routes and the weaves of the live regions, and media.
 
-ghost use Rattle.std.specs.Prelude.{◌≡◌, ℕ, ◌+◌, ◌-◌, ◌≤◌, true, length, map, IfOk, OnOk, IfSome, IfNone};
+ghost use Rattle.std.specs.Prelude.{◌≡◌, ◌+◌, ◌-◌, ◌≤◌, true, length, map, IfOk, OnOk, IfSome, IfNone};
 ghost use Rattle.cxl_script.specs.Grammar.{access_limit, range_limit};
 ghost use Rattle.cxl_window.specs.Fields.{WindowFields};
 ghost use Rattle.cxl_media.specs.Blocks.{IsInOneBlock};
@@ -34,7 +34,6 @@ use cxl_move::blocks_hold_their_pieces;
 use cxl_range::{extents, spread};
 use cxl_regs::Decoder;
 use cxl_reply::{Downed, Extents, Reply, Spread, Upped, Via};
-use cxl_request::endpoint_named;
 use cxl_script::{Load, Reach, Up};
 use cxl_walk::Kept;
 use std::alloc::Global;
@@ -134,7 +133,7 @@ impl Session {
         requires { (m : Machine) × StandsFor self.now m × IsMachine m }
         ensures { (m : Machine) → StandsFor self.now m → IsMachine m → AnswersUp m up (stays m result) }
     {
-        match endpoint_named(&self.topo, &up.endpoint) {
+        match self.topo.endpoint(&up.endpoint) {
             Some(endpoint) => self.told_host(endpoint, up.dpa),
             None => Reply::NoEndpoint(up.endpoint),
         }

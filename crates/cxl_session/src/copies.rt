@@ -1,7 +1,6 @@
 //! Giving a region the bytes of another, by the pieces that media has of it.
 
-ghost use Rattle.std.specs.Prelude.{◌≡◌, ℕ, ◌+◌, ◌<◌, ◌≤◌, true, List, length, position, slice_get, IfOk, IfSome, IsSomeAnd, OnErr};
-ghost use Rattle.std.specs.Str.{bytes_eq};
+ghost use Rattle.std.specs.Prelude.{◌≡◌, ℕ, ◌+◌, ◌<◌, ◌≤◌, true, List, length, slice_get, IfOk, IfSome, IsSomeAnd, OnErr};
 ghost use Rattle.cxl_enc.specs.Limits.{frame_limit};
 ghost use Rattle.cxl_window.specs.Fields.{WindowFields};
 ghost use Rattle.cxl_script.specs.declared.command.Pair.{Pair};
@@ -20,7 +19,7 @@ ghost use Rattle.cxl_session.specs.inner.Pairs.{IsSideAt, AreTwo, AreForTwo};
 ghost use Rattle.cxl_session.specs.inner.Places.{StandsAt, IsNamedAt};
 
 use crate::session::Session;
-use cxl_enc::{Memory, Name};
+use cxl_enc::{Memory, Name, place_among};
 use cxl_machine::accesses_keep_machines;
 use cxl_media::Roll;
 use cxl_model::{Found, regions_share_no_byte};
@@ -102,7 +101,7 @@ impl Session {
         let Some(second) = self.place_of_name(&pair.to) else {
             return Err(Reply::NoRegion(pair.to));
         };
-        if is_same(&pair.from, &pair.to) {
+        if pair.from.is_same(&pair.to) {
             return Err(Reply::SameRegion(pair.from));
         }
         let from = self.found_at(first).size;
@@ -130,19 +129,6 @@ impl Session {
         let window = &self.windows[found.window as usize];
         Side { found, window }
     }
-}
-
-/// The place of a name among others.
-pub(crate) fn place_among(names: &[Name], name: &Name) -> Option<usize>
-    ensures { result ≡ position (λ own. bytes_eq own name.now) names.now }
-{
-    names.iter().position(|own| is_same(own, name))
-}
-
-fn is_same(name: &Name, other: &Name) -> bool
-    ensures { result ≡ bytes_eq name.now other.now }
-{
-    name.bytes() == other.bytes()
 }
 
 /// What is told of so many pieces.

@@ -19,12 +19,11 @@ ghost use Rattle.cxl_session.specs.Standing.{StandsFor, Stands, IsKeptIn};
 ghost use Rattle.cxl_session.specs.inner.Answering.{IsTurnFor};
 ghost use Rattle.cxl_session.specs.inner.Creating.{own_of, IsEarlyRefusal, IsAskedPlan, IsPrepared, IsAskedCreate};
 
-use crate::copies::place_among;
 use crate::pending::{Kind, PendingJob};
 use crate::session::Session;
 use cxl_apply::{Job, create_commits_its_rows, regions_stay_after_a_create};
 use cxl_bus::Regs;
-use cxl_enc::Memory;
+use cxl_enc::{Memory, place_among};
 use cxl_machine::{
     REGION_LIMIT, asked_creates_begin_as_machines, creates_are_legal, jobs_have_one_list_of_writes,
 };

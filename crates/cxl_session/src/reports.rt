@@ -16,7 +16,6 @@ use cxl_enc::{FixedList, Memory, Name};
 use cxl_model::{Entry, Found, PoisonList, Poisoned};
 use cxl_poison::{PoisonFault, pieces_at, read_list};
 use cxl_reply::{Counted, Reply, Report};
-use cxl_request::endpoint_named;
 use cxl_script::Poison;
 use cxl_window::Window;
 use std::alloc::Global;
@@ -28,7 +27,7 @@ impl Session {
         ensures { IfOk result (λ reply. (m : Machine) → StandsFor self.now m → IsMachine m
             → AnswersPoison m poison.now (stays m reply)) }
     {
-        let Some(endpoint) = endpoint_named(&self.topo, &poison.endpoint) else {
+        let Some(endpoint) = self.topo.endpoint(&poison.endpoint) else {
             return Ok(Reply::NoEndpoint(poison.endpoint));
         };
         match read_list(alloc, poison.bytes.items()) {

@@ -7,10 +7,9 @@ ghost use Rattle.cxl_machine.specs.Requests.{spot_of};
 ghost use Rattle.cxl_session.specs.Standing.{StandsFor};
 ghost use Rattle.cxl_session.specs.inner.Requests.{IsAskedRelease};
 
-use crate::copies::place_among;
 use crate::rows::{first_locked, first_not_last, region_rows};
 use crate::session::Session;
-use cxl_enc::{Memory, Name};
+use cxl_enc::{Memory, Name, place_among};
 use cxl_machine::live_regions_stay;
 use cxl_model::Row;
 use cxl_reply::{Reply, Spot};

@@ -1,15 +1,13 @@
 //! The own decoders of a region in an image, a row a node, and why they can't be released.
 
-ghost use Rattle.std.specs.Prelude.{◌≡◌, ◌+◌, ◌<◌, length, drop, find, slice_get, Some, IfOk};
+ghost use Rattle.std.specs.Prelude.{◌≡◌, find, IfOk};
 ghost use Rattle.std.specs.List.{filter_map};
-ghost use Rattle.cxl_regs.specs.Writes.{any_committed};
 ghost use Rattle.cxl_model.specs.System.{blocks_alone};
 ghost use Rattle.cxl_session.specs.inner.Rows.{is_not_last, is_locked, row_at};
 
 use cxl_enc::Memory;
 use cxl_image::Image;
 use cxl_model::Row;
-use cxl_regs::Block;
 use cxl_walk::Own;
 use std::alloc::Global;
 
@@ -60,16 +58,5 @@ fn row_at(image: &Image, own: &Own) -> Option<Row>
 fn is_not_last(image: &Image, row: &Row) -> bool
     ensures { result ≡ is_not_last (blocks_alone image.now) row.now }
 {
-    row.node < image.count() && has_committed_above(image.block(row.node), row.index)
-}
-
-fn has_committed_above(block: &Block, index: u8) -> bool
-    ensures { result ≡ any_committed (drop (index + 1) block.now.decoders) }
-{
-    for i in 0..block.count() {
-        if i > index && block.decoder(i).committed {
-            return true;
-        }
-    }
-    false
+    row.node < image.count() && image.block(row.node).has_committed_above(row.index)
 }

@@ -3,6 +3,7 @@ pub mod Bridges
 pub mod NameKeys
 pub mod Entering
 mod ChildPlaces
+mod EndpointNames
 pub mod PathsUp
 pub mod Sound
 pub mod PathSteps

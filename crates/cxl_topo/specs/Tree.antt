@@ -71,6 +71,10 @@ is_named name node = bytes_eq node.name name
 abbrev pub node_named : List Node → List ℕ → Option ℕ
 node_named nodes name = position (is_named name) nodes
 
+-- the endpoint with this name
+abbrev pub endpoint_named : List Node → List ℕ → Option ℕ
+endpoint_named nodes name = position (λ node. is_endpoint node.kind && is_named name node) nodes
+
 -- the node is the bridge of this UID
 abbrev pub is_bridge_with : ℕ → Node → Bool
 is_bridge_with uid node = option_map_or (λ own. own == uid) (uid_of node.kind) false

@@ -1,7 +1,7 @@
 //! The tree of a host, and what is asked of it.
 
-ghost use Rattle.std.specs.Prelude.{◌≡◌, ◌≢◌, ◌+◌, ◌-◌, ◌≤◌, ◌<◌, ◌↔◌, ℕ, length, take, drop, replicate, slice_get, Some, IsTrue, false, IfSome, IsSomeAnd, IfOk, IfErr, Contains};
-ghost use Rattle.cxl_topo.specs.Tree.{Tree, is_endpoint_at, is_port_at, forwards_at, child_of, least_child_of, name_at, uid_at, node_named, bridge_with, bridge_uids, path_of, IsPathTo, decoding_port_of, landing_of};
+ghost use Rattle.std.specs.Prelude.{◌≡◌, ◌≢◌, ◌-◌, ◌≤◌, ◌<◌, ◌↔◌, ℕ, length, take, drop, replicate, slice_get, None, Some, if◌then◌else◌, option_and_then, IsTrue, false, IfSome, IsSomeAnd, IfOk, IfErr, Contains};
+ghost use Rattle.cxl_topo.specs.Tree.{Tree, is_endpoint_at, is_port_at, forwards_at, child_of, least_child_of, name_at, uid_at, node_named, endpoint_named, bridge_with, bridge_uids, path_of, IsPathTo, decoding_port_of, landing_of};
 ghost use Rattle.cxl_topo.specs.Faults.{IsTree, IsFirstTreeFault};
 ghost use Rattle.cxl_topo.specs.Frames.{AreFrames};
 ghost use Rattle.cxl_topo.specs.Laws.{StandsAt, StandsBelow};
@@ -133,6 +133,21 @@ impl Topo {
         ensures named { (i : ℕ) → (result ≡ Some i) ↔ (name_at self.now.nodes i ≡ Some name.now) }
     {
         self.tables.names.get(&NameKey::of(name)).copied()
+    }
+
+    /// The endpoint with a name.
+    pub fn endpoint(&self, name: &Name) -> Option<u32>
+        ensures endpoint { result ≡ endpoint_named self.now.nodes name.now }
+        // No two nodes have one name: it is the node of this name, where that is an endpoint.
+        ensures node { result ≡ option_and_then (λ n. if is_endpoint_at self.now.nodes n then Some n else None)
+            (node_named self.now.nodes name.now) }
+    {
+        let node = self.find(name)?;
+        if self.is_endpoint(node) {
+            Some(node)
+        } else {
+            None
+        }
     }
 
     /// The bridge with a UID.

@@ -23,7 +23,7 @@ abbrev pub IsTaken : System → ℕ → ℕ → ℕ → Type 0
 IsTaken s n i taken = is_endpoint_at s.nodes n ≡ true → taken ≡ sum_by span_step (take i (decoders_at s n))
 
 -- the span of an endpoint's decoder i starts and ends there, and is of this kind
-pub record IsSpanOf (s : System) (n i : ℕ) (span : DeviceSpan) : Type 0 where
+pub record IsSpanOfDecoder (s : System) (n i : ℕ) (span : DeviceSpan) : Type 0 where
   pub start : is_endpoint_at s.nodes n ≡ true → span.start ≡ span_start_of (decoders_at s n) i
   pub end : IsTaken s n (i + 1) span.end
   pub kind : is_endpoint_at s.nodes n ≡ true → span.kind ≡ span_kind s n i
