@@ -35,18 +35,34 @@ fn count_of_files(words: &[String]) -> usize {
 
 /// Why a file cannot be read, where that can be told without reading it.
 fn why_unread<R: Files>(rt: &R, name: &str) -> Option<&'static str> {
-    match fs::metadata(rt, name) {
-        Err(e) if e.kind() == ErrorKind::NotFound => Some(" is not there"),
-        Err(_) => Some(" cannot be reached"),
-        Ok(found) if found.is_dir() => Some(" is a folder"),
-        Ok(found) if found.is_file() && File::open(rt, name).is_err() => {
-            Some(" may not be read by you; the files below /sys/firmware/acpi are root's")
-        }
-        Ok(_) => None,
+    let found = match fs::metadata(rt, name) {
+        Ok(found) => found,
+        Err(error) => return Some(why_unreached(error.kind())),
+    };
+    if found.is_dir() {
+        return Some(" is a folder");
+    }
+    if found.is_file() && File::open(rt, name).is_err() {
+        return Some(" may not be read by you; the files below /sys/firmware/acpi are root's");
+    }
+    None
+}
+
+fn why_unreached(kind: ErrorKind) -> &'static str {
+    if kind == ErrorKind::NotFound {
+        " is not there"
+    } else {
+        " cannot be reached"
     }
 }
 
-/// The fault of a table with the file's name. Text of acpidump and an image are known by their first bytes.
+/// What stands in the place of a table, where the first bytes tell.
+enum Instead {
+    AcpidumpText,
+    Image,
+}
+
+/// The fault of a table with the file's name, or what stands there in its place.
 pub(crate) fn bad_table<R: Eprint + Files>(
     rt: &R,
     alloc: Global,
@@ -54,16 +70,27 @@ pub(crate) fn bad_table<R: Eprint + Files>(
     fault: CedtFault,
 ) -> io::Result<()> {
     let name = command_word(words, 1);
-    if let Some(bytes) = reread(rt, alloc, name) {
-        if has_acpidump_text(bytes.as_slice()) {
-            return eprintln!(rt;
-                "cxlplan: {name} is acpidump's text; acpixtract -s CEDT {name} makes a binary table of it"
-            );
-        }
-        if bytes.starts_with(b"CXLHDM01") {
-            return say(rt, name, " is an image; the order is CEDT TOPO IMAGE");
-        }
+    match instead_of_table(rt, alloc, name) {
+        Some(Instead::AcpidumpText) => eprintln!(rt;
+            "cxlplan: {name} is acpidump's text; acpixtract -s CEDT {name} makes a binary table of it"
+        ),
+        Some(Instead::Image) => say(rt, name, " is an image; the order is CEDT TOPO IMAGE"),
+        None => tell_table(rt, name, fault),
     }
+}
+
+fn instead_of_table<R: Files>(rt: &R, alloc: Global, name: &str) -> Option<Instead> {
+    let bytes = reread(rt, alloc, name)?;
+    if has_acpidump_text(bytes.as_slice()) {
+        return Some(Instead::AcpidumpText);
+    }
+    if bytes.starts_with(b"CXLHDM01") {
+        return Some(Instead::Image);
+    }
+    None
+}
+
+fn tell_table<R: Eprint>(rt: &R, name: &str, fault: CedtFault) -> io::Result<()> {
     match fault {
         CedtFault::Signature => eprintln!(rt;
             "cxlplan: {name}: {fault}; the table comes first, as its bytes and not as text"
@@ -85,8 +112,22 @@ pub(crate) fn bad_topology<R: Eprint + Files>(
         TopoFault::Memory => say(rt, "", "memory ran out"),
         _ => match reread(rt, alloc, name) {
             Some(bytes) => bad_tables(rt, alloc, name, bytes.as_slice(), fault),
-            None => eprintln!(rt; "cxlplan: {name}: {fault} ({})", counted(fault)),
+            None => tell_fault(rt, name, None, fault),
         },
+    }
+}
+
+/// A fault of a topology, with its line where that is known.
+fn tell_fault<R: Eprint>(
+    rt: &R,
+    name: &str,
+    line: Option<usize>,
+    fault: TopoFault,
+) -> io::Result<()> {
+    let counted = counted(fault);
+    match line {
+        Some(line) => eprintln!(rt; "cxlplan: {name}, line {line}: {fault} ({counted})"),
+        None => eprintln!(rt; "cxlplan: {name}: {fault} ({counted})"),
     }
 }
 
@@ -107,19 +148,20 @@ fn bad_tables<R: Eprint>(
     fault: TopoFault,
 ) -> io::Result<()> {
     let Ok(text) = str::from_utf8(bytes) else {
-        return eprintln!(rt; "cxlplan: {name}: {fault} ({})", counted(fault));
+        return tell_fault(rt, name, None, fault);
     };
-    if let Some((spot, table)) = unknown_key(text, fault) {
-        let Spot { line, key } = spot;
-        return eprintln!(rt; "cxlplan: {name}, line {line}: {key} is no key of {table}");
+    match unknown_key(text, fault) {
+        Some((spot, table)) => tell_unknown(rt, name, spot, table),
+        None => {
+            let line = line_of_fault(alloc, text, fault)?;
+            tell_fault(rt, name, line, fault)
+        }
     }
-    match line_of_fault(alloc, text, fault)? {
-        Some(line) => eprintln!(rt;
-            "cxlplan: {name}, line {line}: {fault} ({})",
-            counted(fault)
-        ),
-        None => eprintln!(rt; "cxlplan: {name}: {fault} ({})", counted(fault)),
-    }
+}
+
+fn tell_unknown<R: Eprint>(rt: &R, name: &str, spot: Spot<'_>, table: &str) -> io::Result<()> {
+    let Spot { line, key } = spot;
+    eprintln!(rt; "cxlplan: {name}, line {line}: {key} is no key of {table}")
 }
 
 /// The key that is none of its table's, and what kind of table that is.
