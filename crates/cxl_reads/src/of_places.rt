@@ -2,6 +2,8 @@
 
 ghost use Rattle.std.specs.Prelude.{◌≡◌, ◌≤◌, ◌<◌, ◌++◌, All, OnOk, IfOk, length};
 ghost use Rattle.std.specs.List.{flat_map};
+ghost use Rattle.cxl_image.specs.Images.{HasCapsOf};
+ghost use Rattle.cxl_inputs.specs.Host.{host_of};
 ghost use Rattle.cxl_model.specs.System.{IsSystem, system_of};
 ghost use Rattle.cxl_reads.specs.Answers.{ComesTo, IsAnswered};
 ghost use Rattle.cxl_reads.specs.Breaches.{breach_line, verdict, TellsBreaches, AreBreaches};
@@ -9,11 +11,13 @@ ghost use Rattle.cxl_reads.specs.Breaches.{breach_line, verdict, TellsBreaches, 
 use crate::answers::{IMAGE, TABLE, TOPOLOGY};
 use cxl_check::Breach;
 use cxl_enc::Memory;
+use cxl_image::Image;
 use cxl_inputs::{
     Outcome, OwnedHost, Status, Stop, finish, given_image, given_table, given_topology,
 };
 use cxl_io::Sink;
 use cxl_reply::findings_are_told;
+use cxl_table::Cedt;
 use cxl_text::put_breach;
 use cxl_topo::Topo;
 use std::alloc::Global;
@@ -41,9 +45,17 @@ fn breaches_told(alloc: Global, cedt: &[u8], topo: &[u8], image: &[u8]) -> Resul
     let table = given_table(alloc, TABLE, cedt)?;
     let topo = given_topology(alloc, TOPOLOGY, topo)?;
     let image = given_image(alloc, IMAGE, image, &topo)?;
-    let host = OwnedHost::of(alloc, &table, topo, image)?;
-    let told = told_of(alloc, &host)?;
+    let told = told_over(alloc, &table, topo, image)?;
     Ok(told)
+}
+
+/// The places of the image of a host over a table, as lines.
+fn told_over(alloc: Global, table: &Cedt, topo: Topo, image: Image) -> Result<Outcome, Memory>
+    requires { HasCapsOf image topo.nodes }
+    ensures { IfOk result (TellsBreaches (host_of table.now topo image)) }
+{
+    let host = OwnedHost::of(alloc, table, topo, image)?;
+    told_of(alloc, &host)
 }
 
 /// The places of a host's image, as lines.

@@ -2,8 +2,8 @@
 
 ghost use Rattle.std.specs.Prelude.{◌≡◌, ◌≤◌, ◌++◌, [], Some, IfOk, OnOk, length};
 ghost use Rattle.std.specs.List.{cons_option, filter_map, flat_map, zip};
-ghost use Rattle.cxl_reads.specs.Answers.{ComesTo, IsAnswered};
-ghost use Rattle.cxl_reads.specs.Windows.{group_in, seen_line, AreWindows};
+ghost use Rattle.cxl_reads.specs.Answers.{ComesTo, IsAnswered, told};
+ghost use Rattle.cxl_reads.specs.Windows.{group_in, seen_line, windows_text, AreWindows};
 ghost use Rattle.cxl_topo.specs.Tree.{bridge_uids};
 ghost use Rattle.cxl_window.specs.Windows.{windows_of};
 
@@ -33,7 +33,15 @@ fn windows_told(alloc: Global, cedt: &[u8], topo: &[u8]) -> Result<Outcome, Stop
 {
     let table = given_table(alloc, TABLE, cedt)?;
     let topo = given_topology(alloc, TOPOLOGY, topo)?;
-    let windows = judged(alloc, &table, &topo)?;
+    let told = told_over(alloc, &table, &topo)?;
+    Ok(told)
+}
+
+/// The windows of a table over the bridges of a topology, as lines.
+fn told_over(alloc: Global, table: &Cedt, topo: &Topo) -> Result<Outcome, Memory>
+    ensures { IfOk result (λ outcome. outcome ≡ told (windows_text table.now.records (bridge_uids topo.now.nodes))) }
+{
+    let windows = judged(alloc, table, topo)?;
     let groups = groups_of(alloc, table.records())?;
     let mut text = Vec::new(alloc);
     put_windows(&mut text, table.records(), &windows, &groups)?;

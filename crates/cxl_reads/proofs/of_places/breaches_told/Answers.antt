@@ -4,7 +4,6 @@ use Rattle.cxl_inputs.specs.Given.{SpellNoTable, StandForNoTree, HoldNoImage}
 use Rattle.cxl_reads.specs.Answers.{table_name, topology_name, image_name}
 use Rattle.cxl_reads.specs.Breaches.{AreBreaches, no_table, no_tree, no_image, places}
 use Rattle.cxl_reads.proofs.Endings.{stops_behind, stops_short}
-use Rattle.cxl_reads.proofs.Places.{told_of_files}
 use Rattle.cxl_reads.proofs.of_places.breaches_told.Goals as goal
 
 pub returns-in_err-table : goal.returns-in_err-table
@@ -28,11 +27,6 @@ returns-in_err-image c =
     stops_behind (HoldNoImage image_name image tree.nodes) (AreBreaches c.args.cedt.now c.args.topo.now image) c.from_residual-in_err-image.result _ (p.1 ∙ ap Err p.2)
     (λ o none. no_image c.in_ok-table.table tree c.in_ok-table.ensures.table c.in_ok-topo.ensures.tree none) c.in_err-image.ensures.stops
 
-pub returns-in_err-host : goal.returns-in_err-host
-returns-in_err-host c =
-    let p = err_from_is_err_and c.from_residual-in_err-host.result c.from_residual-in_err-host.ensures.1 in
-    stops_short (AreBreaches c.args.cedt.now c.args.topo.now c.args.image.now) c.from_residual-in_err-host.result _ p.1 p.2
-
 pub returns-in_err-told : goal.returns-in_err-told
 returns-in_err-told c =
     let p = err_from_is_err_and c.from_residual-in_err-told.result c.from_residual-in_err-told.ensures.1 in
@@ -40,10 +34,5 @@ returns-in_err-told c =
 
 pub returns : goal.returns
 returns c =
-    let table = c.in_ok-table.table in
-    let tree = c.in_ok-topo.topo in
-    let blocks = c.in_ok-image.image in
-    let host = c.in_ok-host.host in
-    let own = c.in_ok-host.ensures in
-    places table tree blocks (record { of_table = c.in_ok-table.ensures.table; of_tree = c.in_ok-topo.ensures.tree; of_image = c.in_ok-image.ensures.image })
-    (told_of_files table tree blocks host.topo host.image host.windows.items own.parts.0 own.parts.1 own.windows c.in_ok-told.told c.in_ok-told.ensures)
+    places c.in_ok-table.table c.in_ok-topo.topo c.in_ok-image.image
+    (record { of_table = c.in_ok-table.ensures.table; of_tree = c.in_ok-topo.ensures.tree; of_image = c.in_ok-image.ensures.image }) c.in_ok-told.ensures
