@@ -27,7 +27,7 @@ module _ (s : System) (r : Range) where
   pub no_first : first_endpoint s r ≡ None → AreFacts s r (record { ways = 1; code = 0; kind = Ram })
   no_first none = record { ways = rw none refl; code = rw none refl; kind = rw none refl }
 
-  by_index : (n : ℕ) → decoder_for s r n ≡ option_and_then (slice_get (decoders_at s n)) (index_for s r n)
+  pub by_index : (n : ℕ) → decoder_for s r n ≡ option_and_then (slice_get (decoders_at s n)) (index_for s r n)
   by_index n = find_by_position (has_range r) (decoders_at s n)
 
   pub no_index : (n : ℕ) → first_endpoint s r ≡ Some n → index_for s r n ≡ None → AreFacts s r (record { ways = 1; code = 0; kind = Ram })

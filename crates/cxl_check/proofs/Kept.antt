@@ -1,13 +1,12 @@
 -- What K1 to K8 give of one node.
 use Rattle.std.proofs.Common.{◌≡◌, ℕ, ◌+◌, ◌%◌, ◌^◌, ◌<◌, ◌≤◌, ◌&&◌, Bool, true, false, List, length, take, sum_by, Option, Some, None, refl, sym, ap, ◌∙◌, if◌then◌else◌, arith}
-use Rattle.std.specs.Prelude.{slice_get, IsSomeAnd, ◌==◌, nat_le}
+use Rattle.std.specs.Prelude.{slice_get, ◌==◌, nat_le}
 use Rattle.std.specs.Option.{option_map_or, option_and_then}
 use Rattle.std.proofs.lemmas.Bool.{and_parts, leb-true, le-leb, lt-leb, false≢true}
 use Rattle.std.proofs.lemmas.Option.{slice_get_within}
 use Rattle.cxl_topo.specs.declared.node.Node.{Node}
 use Rattle.cxl_enc.specs.Limits.{address_limit}
 use Rattle.cxl_enc.specs.declared.caps.MemKind.TheVariants.{Ram, Pmem}
-use Rattle.cxl_enc.proofs.Options.{some_and}
 use Rattle.cxl_topo.specs.declared.node.Capacity.{Capacity}
 use Rattle.cxl_topo.specs.Kinds.{is_endpoint, capacity_of}
 use Rattle.cxl_topo.specs.Tree.{is_endpoint_at}
@@ -38,13 +37,6 @@ endpoint_there nodes n endpoint = go (slice_get nodes n) refl endpoint
     go : (o : Option Node) → slice_get nodes n ≡ o → option_map_or (λ node. is_endpoint node.kind) o false ≡ true → (node : Node) × (slice_get nodes n ≡ Some node) × (is_endpoint node.kind ≡ true)
     go None e h = absurd (false≢true h)
     go (Some node) e h = (node, e, h)
-
--- a committed decoder is one of its block's
-pub decoder_inside : (s : System) (n i : ℕ) (block : Registers) → slice_get s.blocks n ≡ Some block → IsSomeAnd (decoder_at s n i) (λ (d : Decoder). d.committed ≡ true) → i < length block.decoders
-decoder_inside s n i block here committed =
-    let there : IsSomeAnd (slice_get block.decoders i) (λ (d : Decoder). d.committed ≡ true) = rw here at committed in
-    let d = some_and (slice_get block.decoders i) (λ (d : Decoder). d.committed ≡ true) there in
-    slice_get_within block.decoders i d.0 d.1
 
 -- of which kind the span of a committed decoder is, by where it ends
 module _ (s : System) (n i end : ℕ) (d : Decoder) (there : decoder_at s n i ≡ Some d) (end_is : end ≡ span_start_of (decoders_at s n) i + span_length d) where

@@ -80,18 +80,11 @@ sum_few f (p ∷ ps) zero few = absurd (omega arith)
 sum_few f (p ∷ ps) (suc m) few = sum_step f p ps m (f p) refl (sum_few f ps m (omega arith))
 
 module _ (s : System) (r : Range) where
-  pub ways_few : (n : ℕ) → length (ports_above s.nodes n) ≤ 4 → ways_above s r n ≤ 65536
-  ways_few n few = product_few (λ (parent : Parent). decoder_for s r parent.node) (ports_above s.nodes n) 4 few
+  pub ways_few : (n : ℕ) → length (ports_above s.nodes n) ≤ 5 → ways_above s r n ≤ 1048576
+  ways_few n few = product_few (λ (parent : Parent). decoder_for s r parent.node) (ports_above s.nodes n) 5 few
 
-  pub ways_few_up : (n : ℕ) → length (ports_above s.nodes n) ≤ 5 → ways_above s r n ≤ 1048576
-  ways_few_up n few = product_few (λ (parent : Parent). decoder_for s r parent.node) (ports_above s.nodes n) 5 few
-
-  pub bits_few : (n : ℕ) → length (ports_above s.nodes n) ≤ 4 → bits_above s r n ≤ 16
-  bits_few n few = sum_few (λ (parent : Parent). decoder_for s r parent.node) (ports_above s.nodes n) 4 few
-
--- a decoder more
-pub ways_once_more : (a p : ℕ) → a ≤ 16 → p ≤ 65536 → a * p ≤ 1048576
-ways_once_more a p few rest = times a 16 p 65536 few rest
+  pub bits_few : (n : ℕ) → length (ports_above s.nodes n) ≤ 5 → bits_above s r n ≤ 20
+  bits_few n few = sum_few (λ (parent : Parent). decoder_for s r parent.node) (ports_above s.nodes n) 5 few
 
 -- the numbers of one decoder more fit
 pub ways_fit : (a p : ℕ) → a ≤ 16 → p ≤ 1048576 → a * p ≤ 16777216
@@ -113,12 +106,6 @@ module _ (nodes : List Node) (n : ℕ) (node : Node) (ports : PortsAbove nodes n
   one_more parent is =
       let up : parent_of nodes n ≡ Some parent = rw here is in
       ports ∙ rw up refl
-
-  -- so above a parent stands one port fewer
-  pub fewer : (parent : Parent) → node.parent ≡ Some parent → length (ports_above nodes n) ≤ 5 → length (ports_above nodes parent.node) ≤ 4
-  fewer parent is few =
-      let longer : length (ports_above nodes n) ≡ suc (length (ports_above nodes parent.node)) = ap length (one_more parent is) in
-      omega arith
 
 -- the ways and bits above a node, from those above its parent
 module _ (s : System) (r : Range) (n : ℕ) where

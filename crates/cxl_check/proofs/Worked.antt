@@ -1,6 +1,7 @@
 -- What is worked out of decoders, one after the other.
-use Rattle.std.proofs.Common.{◌≡◌, ℕ, ◌+◌, ◌*◌, ◌<◌, ◌≤◌, true, false, List, length, get_or, set, Some, sym, ap, subst, ◌∙◌, inl, inr, arith}
+use Rattle.std.proofs.Common.{◌≡◌, ℕ, ◌+◌, ◌*◌, ◌^◌, ◌<◌, ◌≤◌, true, false, List, length, get_or, set, Some, None, sym, ap, subst, ◌∙◌, inl, inr, arith}
 use Rattle.std.specs.Prelude.{◌&&◌, ◌==◌, slice_get}
+use Rattle.std.specs.Option.{option_and_then}
 use Rattle.std.proofs.lemmas.Bool.{cases_lt, cases_eq, false≢true, and_parts}
 use Rattle.std.proofs.lemmas.List.{get_or-set_same, get_or-set_other, length-set}
 use Rattle.std.proofs.lemmas.Option.{same_Some, slice_get_within}
@@ -16,8 +17,8 @@ use Rattle.cxl_model.proofs.RangeRules.{block_keeps, at_in_block}
 use Rattle.cxl_model.proofs.RangeServers.{in_block}
 use Rattle.cxl_check.specs.declared.decoder_facts.DecoderFacts.{DecoderFacts}
 use Rattle.cxl_check.specs.inner.DecoderFacts.{AreDecoderFacts, AreFactsBefore}
-use Rattle.cxl_check.proofs.FirstFacts.{range_is}
-use Rattle.cxl_check.proofs.Searches.{find_by_position, passes_at}
+use Rattle.cxl_check.proofs.FirstFacts.{range_is, by_index}
+use Rattle.cxl_check.proofs.Searches.{passes_at}
 
 -- what is said of the decoders before a committed one
 abbrev pub StandFirst : Type 0
@@ -25,13 +26,13 @@ StandFirst =
     (block : Registers) (ram pmem i j : ℕ) (d e : Decoder) → BlockKeeps block ram pmem → slice_get block.decoders i ≡ Some d → slice_get block.decoders j ≡ Some e
     → i < j → e.committed ≡ true → d.committed ≡ true
 
--- what is worked out of the parent's decoder of a range
-pub record AreParentFacts (s : System) (r : Range) (p i : ℕ) (all : List DecoderFacts) : Type 0 where
-  pub d : Decoder
-  pub there : decoder_at s p i ≡ Some d
+-- what is worked out of a port's decoder of a range
+pub record ArePortFacts (s : System) (r : Range) (p : ℕ) (d : Decoder) (facts : DecoderFacts) : Type 0 where
   pub has : decoder_for s r p ≡ Some d
-  pub ways : (other : DecoderFacts) → (get_or all (10 * p + i) other).ways ≡ ways_above s r p
-  pub bits : (other : DecoderFacts) → (get_or all (10 * p + i) other).bits ≡ bits_above s r p
+  pub ways : facts.ways ≡ ways_above s r p
+  pub few_ways : facts.ways ≤ 2 ^ 20
+  pub bits : facts.bits ≡ bits_above s r p
+  pub few_bits : facts.bits ≤ 20
 
 module _ (s : System) where
   -- no decoder stands before the first place
@@ -117,17 +118,38 @@ module _ (s : System) where
                 first own.block (ram_at s n) (pmem_at s n) i j d e (block_keeps s ready.blocks n own.block own.at) own.there (at_in_block s n own.block own.at j e here) (omega (arith, past, apart)) committed
           ]
 
-  -- what is worked out of a parent's decoder of a range speaks of that range
-  pub parent_worked : (r : Range) (place : ℕ) (all : List DecoderFacts) (p i : ℕ) → AreFactsBefore s place all → 10 * p + i < place → i < 10 → index_for s r p ≡ Some i → AreParentFacts s r p i all
-  parent_worked r place all p i before below few at =
-      let found = passes_at (has_range r) (decoders_at s p) i at in
-      let d = found.0 in
-      let committed : d.committed ≡ true = (and_parts d.committed (d.base == r.base) (and_parts (d.committed && (d.base == r.base)) (d.size == r.size) found.2).0).0 in
-      let range : range_of d ≡ r = range_is r d found.2 in
-      record {
-        d = d;
-        there = found.1;
-        has = find_by_position (has_range r) (decoders_at s p) ∙ rw at found.1;
-        ways = λ other. (before.each p i d other below few found.1 committed).ways ∙ ap (λ (q : Range). ways_above s q p) range;
-        bits = λ other. (before.each p i d other below few found.1 committed).bits ∙ ap (λ (q : Range). bits_above s q p) range;
-      }
+  -- what is entered before a place is so before a lower one
+  pub fewer_worked : (low high : ℕ) (all : List DecoderFacts) → low ≤ high → AreFactsBefore s high all → AreFactsBefore s low all
+  fewer_worked low high all lower before = record {
+    count = before.count;
+    each = λ n i d other below few here committed. before.each n i d other (omega (arith, below, lower)) few here committed;
+  }
+
+  module _ (r : Range) (p : ℕ) where
+    -- without a number of the range there is no decoder of it
+    pub lacks : index_for s r p ≡ None → decoder_for s r p ≡ None
+    lacks none = by_index s r p ∙ ap (option_and_then (slice_get (decoders_at s p))) none
+
+    -- that number is one of the node's decoders
+    pub number_within : (i : ℕ) → index_for s r p ≡ Some i → i < length (decoders_at s p)
+    number_within i at =
+        let found = passes_at (has_range r) (decoders_at s p) i at in
+        slice_get_within (decoders_at s p) i found.0 found.1
+
+    -- what is worked out of a port's decoder of a range speaks of that range
+    pub port_worked : (i : ℕ) (d : Decoder) (all : List DecoderFacts) (other : DecoderFacts) → AreFactsBefore s (10 * (p + 1)) all → i < 10 → index_for s r p ≡ Some i → decoder_at s p i ≡ Some d
+        → ArePortFacts s r p d (get_or all (10 * p + i) other)
+    port_worked i d all other before few at there =
+        let found = passes_at (has_range r) (decoders_at s p) i at in
+        let same : found.0 ≡ d = same_Some found.0 d (sym found.1 ∙ there) in
+        let passes : has_range r d ≡ true = ap (has_range r) (sym same) ∙ found.2 in
+        let committed : d.committed ≡ true = (and_parts d.committed (d.base == r.base) (and_parts (d.committed && (d.base == r.base)) (d.size == r.size) passes).0).0 in
+        let range : range_of d ≡ r = range_is r d passes in
+        let facts : AreDecoderFacts s p i d (get_or all (10 * p + i) other) = before.each p i d other (omega (arith, few)) few there committed in
+        record {
+          has = by_index s r p ∙ ap (option_and_then (slice_get (decoders_at s p))) at ∙ there;
+          ways = facts.ways ∙ ap (λ (q : Range). ways_above s q p) range;
+          few_ways = facts.few_ways;
+          bits = facts.bits ∙ ap (λ (q : Range). bits_above s q p) range;
+          few_bits = facts.few_bits;
+        }

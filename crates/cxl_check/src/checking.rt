@@ -62,7 +62,7 @@ fn check_ranges(alloc: Global, host: &Host) -> Result<Vec<Found>, CheckFault>
     ensures breach { IfErr result (TellsFirstBreach (as_system host.now)) }
 {
     let tables = tables_of(alloc, host)?;
-    let mut met = none_met(alloc, host, &tables.firsts)?;
+    let mut met = none_met(alloc, host, &tables)?;
     regions_or_breach(alloc, &mut met, host, &tables)
 }
 

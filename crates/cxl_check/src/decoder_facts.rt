@@ -3,23 +3,22 @@
 
 ghost use Rattle.std.specs.Prelude.{◌≡◌, ◌+◌, ◌*◌, ◌^◌, ◌<◌, ◌≤◌, true, Some, length, IfOk};
 ghost use Rattle.cxl_topo.specs.Tree.{is_endpoint_at};
-ghost use Rattle.cxl_regs.specs.Reading.{decoder_ways, select_bits, range_of};
+ghost use Rattle.cxl_regs.specs.Reading.{range_of};
 ghost use Rattle.cxl_span.specs.Spans.{span_start_of};
 ghost use Rattle.cxl_model.specs.Hosts.{as_system};
 ghost use Rattle.cxl_model.specs.Accepted.{IsOrderlySystem};
-ghost use Rattle.cxl_model.specs.Ranges.{ways_above, bits_above, span_kind};
+ghost use Rattle.cxl_model.specs.Ranges.{span_kind};
 ghost use Rattle.cxl_model.specs.System.{decoders_at, decoder_at};
 ghost use Rattle.cxl_check.specs.inner.DecoderFacts.{AreDecoderFacts, AreFactsBefore, AreAllFacts, IsSpanOfDecoder};
 ghost use Rattle.cxl_check.specs.inner.Ready.{IsCommitted};
 
 use crate::above::ports_above;
-use crate::decoders::index_for;
 use crate::kind::{DeviceSpan, span_behind};
 use cxl_enc::MemKind;
-use cxl_model::{Above, Host};
-use cxl_regs::{Decoder, Range};
+use cxl_model::Host;
+use cxl_regs::Decoder;
 use cxl_span::committed_stand_first;
-use cxl_topo::{capacity_at, tree_laws};
+use cxl_topo::capacity_at;
 use std::alloc::{AllocError, Global};
 
 /// What is worked out of a committed decoder.
@@ -95,7 +94,7 @@ fn enter_decoder(
     requires before { AreFactsBefore (as_system host.now) (10 * node + i) all.old.items }
     ensures { AreFactsBefore (as_system host.now) (10 * node + (i + 1)) all.new.items }
 {
-    let above = above_by_parent(host, all, &d.range(), node, i);
+    let above = ports_above(host, all, &d.range(), node, i);
     let facts = DecoderFacts {
         start: span.start,
         ways: above.ways,
@@ -103,44 +102,6 @@ fn enter_decoder(
         kind: span.kind,
     };
     all[10 * node as usize + usize::from(i)] = facts;
-}
-
-/// The decoders of a range in the ports above a node, together, by what is worked out of its parent's where that has one.
-fn above_by_parent(host: &Host, all: &[DecoderFacts], range: &Range, node: u32, likely: u8) -> Above
-    requires ready { IsOrderlySystem (as_system host.now) }
-    requires here { node < length host.now.topo.now.nodes }
-    requires before { AreFactsBefore (as_system host.now) (10 * node + likely) all.now }
-    ensures ways { result.ways ≡ ways_above (as_system host.now) range.now node }
-    ensures bits { result.bits ≡ bits_above (as_system host.now) range.now node }
-    ensures few_ways { result.ways ≤ 2 ^ 20 }
-    ensures few_bits { result.bits ≤ 20 }
-{
-    tree_laws();
-    let _count = host.topo.count();
-    let Some(parent) = host.topo.node(node).parent else {
-        return Above { ways: 1, bits: 0 };
-    };
-    let Some(i) = index_for(host, range, parent.node, likely) else {
-        return ports_above(host, range, node, likely);
-    };
-    let block = host.image.block(parent.node);
-    let _decoders = block.count();
-    let above = all[10 * parent.node as usize + usize::from(i)];
-    with_port(&block.decoder(i), &above)
-}
-
-/// A port's decoder with those in the ports above it.
-fn with_port(d: &Decoder, above: &DecoderFacts) -> Above
-    requires few_ways { above.now.ways ≤ 2 ^ 20 }
-    requires few_bits { above.now.bits ≤ 16 }
-    ensures ways { result.ways ≡ decoder_ways d.now * above.now.ways }
-    ensures bits { result.bits ≡ select_bits d.now.ways + above.now.bits }
-    ensures few_bits { result.bits ≤ 20 }
-{
-    Above {
-        ways: u32::from(d.interleave_ways()) * above.ways,
-        bits: u32::from(d.select_bits()) + u32::from(above.bits),
-    }
 }
 
 /// What is worked out of a committed decoder, from the table.

@@ -37,8 +37,10 @@ pub(crate) fn decoder_for(host: &Host, range: &Range, node: u32, likely: u8) -> 
         return None;
     }
     let block = host.image.block(node);
-    let i = index_in(block, range, likely)?;
-    Some(block.decoder(i))
+    match index_in(block, range, likely) {
+        Some(i) => Some(block.decoder(i)),
+        None => None,
+    }
 }
 
 /// Whether a node has a committed decoder of the range.

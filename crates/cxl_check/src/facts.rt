@@ -1,18 +1,17 @@
 //! What the first endpoint of a range says of it.
 
-ghost use Rattle.std.specs.Prelude.{◌≡◌, ◌==◌, length, if◌then◌else◌};
+ghost use Rattle.std.specs.Prelude.{◌≡◌, ◌==◌, if◌then◌else◌};
 ghost use Rattle.cxl_model.specs.Hosts.{as_system};
 ghost use Rattle.cxl_model.specs.Accepted.{IsOrderlySystem};
-ghost use Rattle.cxl_check.specs.inner.Firsts.{ListsFirsts};
-ghost use Rattle.cxl_check.specs.inner.Facts.{AreFacts};
+ghost use Rattle.cxl_check.specs.inner.Facts.{AreFacts, AreSystemTables};
 
+use crate::decoder_facts::facts_at;
 use crate::decoders::index_for;
-use crate::firsts::{RangeKey, first_of};
-use crate::kind::span_kind;
+use crate::firsts::first_of;
+use crate::tables::Tables;
 use cxl_enc::MemKind;
 use cxl_model::Host;
 use cxl_regs::Range;
-use std::collections::BTreeMap;
 
 /// What the first endpoint of a range says of it: ways, the code in a window of one way, and the kind of memory.
 #[derive(Clone, Copy)]
@@ -23,9 +22,9 @@ pub struct RangeFacts {
 }
 
 /// What the first endpoint of a range says of it; one without an endpoint counts as one way of ram.
-pub(crate) fn facts_of(host: &Host, firsts: &BTreeMap<RangeKey, u32>, range: &Range) -> RangeFacts
+pub(crate) fn facts_of(host: &Host, tables: &Tables, range: &Range) -> RangeFacts
     requires ready { IsOrderlySystem (as_system host.now) }
-    requires firsts { ListsFirsts (as_system host.now) (length host.now.topo.now.nodes) firsts.now }
+    requires tables { AreSystemTables (as_system host.now) tables.now }
     ensures { AreFacts (as_system host.now) range.now result }
 {
     let none = RangeFacts {
@@ -33,7 +32,7 @@ pub(crate) fn facts_of(host: &Host, firsts: &BTreeMap<RangeKey, u32>, range: &Ra
         code: 0,
         kind: MemKind::Ram,
     };
-    let Some(first) = first_of(firsts, range) else {
+    let Some(first) = first_of(&tables.firsts, range) else {
         return none;
     };
     let Some(i) = index_for(host, range, first, 0) else {
@@ -41,10 +40,11 @@ pub(crate) fn facts_of(host: &Host, firsts: &BTreeMap<RangeKey, u32>, range: &Ra
     };
     let d = host.image.block(first).decoder(i);
     let ways = d.interleave_ways();
+    let own = facts_at(host, &tables.decoders, first, i, &d);
     RangeFacts {
         ways,
         code: own_code(ways, d.gran),
-        kind: span_kind(host, first, i),
+        kind: own.kind,
     }
 }
 

@@ -1,11 +1,11 @@
 //! Of which kind of memory a span is.
 
-ghost use Rattle.std.specs.Prelude.{◌≡◌, ◌+◌, ◌<◌, true, length, IsSomeAnd};
+ghost use Rattle.std.specs.Prelude.{◌≡◌, ◌+◌, ◌<◌, true, length};
 ghost use Rattle.cxl_topo.specs.Tree.{is_endpoint_at};
 ghost use Rattle.cxl_regs.specs.Reading.{span_length};
 ghost use Rattle.cxl_span.specs.Spans.{span_start_of};
 ghost use Rattle.cxl_model.specs.Hosts.{as_system};
-ghost use Rattle.cxl_model.specs.System.{decoders_at, decoder_at, ram_at, pmem_at};
+ghost use Rattle.cxl_model.specs.System.{decoders_at, ram_at, pmem_at};
 ghost use Rattle.cxl_model.specs.Ranges.{span_kind};
 ghost use Rattle.cxl_model.specs.Accepted.{IsOrderlySystem};
 ghost use Rattle.cxl_check.specs.inner.DecoderFacts.{IsTaken, IsSpanOfDecoder};
@@ -14,8 +14,8 @@ ghost use Rattle.cxl_check.specs.inner.Ready.{IsCommitted};
 use cxl_enc::MemKind;
 use cxl_model::Host;
 use cxl_regs::Decoder;
-use cxl_span::{spans_lie_in_partitions, start_of};
-use cxl_topo::{Capacity, capacity_at};
+use cxl_span::spans_lie_in_partitions;
+use cxl_topo::Capacity;
 
 /// Where the span of an endpoint's decoder starts and ends, and of which kind of memory it is; a port's has none.
 #[derive(Clone, Copy)]
@@ -56,21 +56,7 @@ pub(crate) fn span_behind(
     DeviceSpan { start, end, kind }
 }
 
-/// The kind of memory of the span of an endpoint's committed decoder.
-pub(crate) fn span_kind(host: &Host, node: u32, i: u8) -> MemKind
-    requires ready { IsOrderlySystem (as_system host.now) }
-    requires endpoint { is_endpoint_at host.now.topo.now.nodes node ≡ true }
-    requires committed { IsSomeAnd (decoder_at (as_system host.now) node i) (λ d. d.committed ≡ true) }
-    ensures { result ≡ span_kind (as_system host.now) node i }
-{
-    spans_lie_in_partitions();
-    let d = host.image.block(node).decoder(i);
-    let capacity = capacity_at(host.topo, node);
-    let end = span_start(host, node, i) + d.span_length();
-    kind_by_end(host, node, i, &d, &capacity, end)
-}
-
-/// The same by where that span ends on a device of this capacity.
+/// The kind of memory of the span of an endpoint's committed decoder, by where that ends on a device of this capacity.
 fn kind_by_end(host: &Host, node: u32, i: u8, d: &Decoder, capacity: &Capacity, end: u64) -> MemKind
     requires ready { IsOrderlySystem (as_system host.now) }
     requires endpoint { is_endpoint_at host.now.topo.now.nodes node ≡ true }
@@ -89,15 +75,4 @@ fn kind_by_end(host: &Host, node: u32, i: u8, d: &Decoder, capacity: &Capacity, 
     } else {
         MemKind::Pmem
     }
-}
-
-/// The device address at which that span starts.
-pub(crate) fn span_start(host: &Host, node: u32, i: u8) -> u64
-    requires ready { IsOrderlySystem (as_system host.now) }
-    requires endpoint { is_endpoint_at host.now.topo.now.nodes node ≡ true }
-    requires committed { IsSomeAnd (decoder_at (as_system host.now) node i) (λ d. d.committed ≡ true) }
-    ensures { result ≡ span_start_of (decoders_at (as_system host.now) node) i }
-{
-    spans_lie_in_partitions();
-    start_of(host.image.block(node), i)
 }

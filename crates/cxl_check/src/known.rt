@@ -1,22 +1,21 @@
 //! What is known of the ranges that were met: it is worked out once for a range, and not once for each decoder of it.
 
-ghost use Rattle.std.specs.Prelude.{◌≡◌, length, All, IfOk, find, slice_get};
+ghost use Rattle.std.specs.Prelude.{◌≡◌, All, IfOk, find, slice_get};
 ghost use Rattle.std.specs.Option.{option_copied};
 ghost use Rattle.cxl_model.specs.Hosts.{as_system};
 ghost use Rattle.cxl_model.specs.Ranges.{lies_within};
 ghost use Rattle.cxl_model.specs.Accepted.{IsOrderlySystem};
-ghost use Rattle.cxl_check.specs.inner.Firsts.{ListsFirsts};
+ghost use Rattle.cxl_check.specs.inner.Facts.{AreSystemTables};
 ghost use Rattle.cxl_check.specs.inner.Known.{IsKnown, IsKnownAs};
 
 use crate::facts::{RangeFacts, facts_of};
-use crate::firsts::RangeKey;
+use crate::tables::Tables;
 use crate::window::place_for;
 use cxl_enc::UNIT;
 use cxl_model::Host;
 use cxl_regs::Range;
 use cxl_window::Window;
 use std::alloc::{AllocError, Global};
-use std::collections::BTreeMap;
 
 /// What is known of a range.
 #[derive(Clone, Copy)]
@@ -34,54 +33,49 @@ pub struct Known {
 pub(crate) fn none_met(
     alloc: Global,
     host: &Host,
-    firsts: &BTreeMap<RangeKey, u32>,
+    tables: &Tables,
 ) -> Result<Vec<Known>, AllocError>
     requires ready { IsOrderlySystem (as_system host.now) }
-    requires firsts { ListsFirsts (as_system host.now) (length host.now.topo.now.nodes) firsts.now }
+    requires tables { AreSystemTables (as_system host.now) tables.now }
     ensures { IfOk result (λ met. All (IsKnown (as_system host.now)) met.items) }
 {
-    let known = learn(host, firsts, &Range { base: 0, size: 0 });
-    let count = firsts.len().saturating_mul(4) | 1;
+    let known = learn(host, tables, &Range { base: 0, size: 0 });
+    let count = tables.firsts.len().saturating_mul(4) | 1;
     vec![in alloc; known; count]
 }
 
 /// What is known of a range, which is then the last one met at its place.
-pub(crate) fn known_of(
-    met: &mut Vec<Known>,
-    host: &Host,
-    firsts: &BTreeMap<RangeKey, u32>,
-    range: &Range,
-) -> Known
+pub(crate) fn known_of(met: &mut Vec<Known>, host: &Host, tables: &Tables, range: &Range) -> Known
     requires ready { IsOrderlySystem (as_system host.now) }
-    requires firsts { ListsFirsts (as_system host.now) (length host.now.topo.now.nodes) firsts.now }
+    requires tables { AreSystemTables (as_system host.now) tables.now }
     requires met { All (IsKnown (as_system host.now)) met.old.items }
     ensures known { IsKnownAs (as_system host.now) range.now result }
     ensures met { All (IsKnown (as_system host.now)) met.new.items }
 {
     let count = met.len();
     if count == 0 {
-        return learn(host, firsts, range);
+        return learn(host, tables, range);
     }
     let place = (range.base / UNIT) as usize % count;
     let last = met[place];
     if last.range.base == range.base && last.range.size == range.size {
         return last;
     }
-    let known = learn(host, firsts, range);
+    let known = learn(host, tables, range);
     met[place] = known;
     known
 }
 
 /// What is known of a range.
-fn learn(host: &Host, firsts: &BTreeMap<RangeKey, u32>, range: &Range) -> Known
+fn learn(host: &Host, tables: &Tables, range: &Range) -> Known
     requires ready { IsOrderlySystem (as_system host.now) }
-    requires firsts { ListsFirsts (as_system host.now) (length host.now.topo.now.nodes) firsts.now }
+    requires tables { AreSystemTables (as_system host.now) tables.now }
     ensures { IsKnownAs (as_system host.now) range.now result }
 {
     Known {
         range: *range,
         window: place_for(host.windows, range),
-        facts: facts_of(host, firsts, range),
+        facts: facts_of(host, tables, range),
     }
 }
 

@@ -105,7 +105,7 @@ fn ranges_spots(alloc: Global, host: &Host) -> Result<Vec<Breach>, Memory>
     ensures { IfOk result (λ found. AreFirstBreaches (as_system host.now) found.items) }
 {
     let tables = tables_of(alloc, host)?;
-    let mut met = none_met(alloc, host, &tables.firsts)?;
+    let mut met = none_met(alloc, host, &tables)?;
     match ranges_breach(&mut met, host, &tables) {
         Some(breach) => rule_spots(alloc, &mut met, host, &tables, breach.rule),
         None => Ok(Vec::new(alloc)),

@@ -80,7 +80,7 @@ pub(crate) fn least_broken(
     if !d.committed {
         return None;
     }
-    let known = known_of(met, host, &tables.firsts, &d.range());
+    let known = known_of(met, host, tables, &d.range());
     let facts = facts_at(host, &tables.decoders, node, i, d);
     broken_rule(host, &known, &facts, tables, node, i, d)
 }

@@ -81,7 +81,7 @@ fn regions_at(
             base: key.base,
             size: key.size,
         };
-        let known = known_of(met, host, &tables.firsts, &range);
+        let known = known_of(met, host, tables, &range);
         let region = region_of(alloc, host, tables, &known, &range)?;
         regions.push(region)?;
     }

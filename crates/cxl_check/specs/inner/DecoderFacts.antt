@@ -1,11 +1,13 @@
 -- What is worked out once of each committed decoder.
 use Rattle.std.specs.Prelude.{◌≡◌, ℕ, ◌+◌, ◌*◌, ◌^◌, ◌<◌, ◌≤◌, true, List, length, take, sum_by, get_or, Some}
 use Rattle.cxl_regs.specs.declared.decoder.Decoder.{Decoder}
-use Rattle.cxl_regs.specs.Reading.{range_of}
+use Rattle.cxl_regs.specs.declared.reading.Range.{Range}
+use Rattle.cxl_regs.specs.Reading.{range_of, decoder_ways, select_bits}
 use Rattle.cxl_span.specs.Spans.{span_step, span_start_of}
 use Rattle.cxl_topo.specs.Tree.{is_endpoint_at}
 use Rattle.cxl_model.specs.System.{System, decoders_at, decoder_at}
-use Rattle.cxl_model.specs.Ranges.{ways_above, bits_above, span_kind}
+use Rattle.cxl_model.specs.declared.above.Above.{Above}
+use Rattle.cxl_model.specs.Ranges.{decoder_for, ways_above, bits_above, span_kind}
 use Rattle.cxl_check.specs.declared.decoder_facts.DecoderFacts.{DecoderFacts}
 use Rattle.cxl_check.specs.declared.kind.DeviceSpan.{DeviceSpan}
 
@@ -37,3 +39,10 @@ pub record AreFactsBefore (s : System) (place : ℕ) (all : List DecoderFacts) :
 -- it has all of them
 abbrev pub AreAllFacts : System → List DecoderFacts → Type 0
 AreAllFacts s all = AreFactsBefore s (10 * length s.nodes) all
+
+-- a port has a decoder of the range, and with those in the ports above it that comes to this
+pub record AreWithPort (s : System) (r : Range) (port : ℕ) (above : Above) : Type 0 where
+  pub d : Decoder
+  pub has : decoder_for s r port ≡ Some d
+  pub ways : above.ways ≡ decoder_ways d * ways_above s r port
+  pub bits : above.bits ≡ select_bits d.ways + bits_above s r port

@@ -11,15 +11,15 @@ pub index_in-requires : goal.index_in-requires
 index_in-requires c =
     holder (as_system c.args.host.now) c.requires c.one_holder.ensures.range c.args.node c.block-block.result.now c.args.range.now c.block-block.ensures.value
 
-pub returns-in_err-i : goal.returns-in_err-i
-returns-in_err-i c =
+pub returns-in-None : goal.returns-in-None
+returns-in-None c =
     let decoders = c.block-block.result.now.decoders in
-    let none : position (has_range c.args.range.now) decoders ≡ None = sym c.index_in.ensures ∙ c.in_err-i.was in
+    let none : position (has_range c.args.range.now) decoders ≡ None = sym c.index_in.ensures ∙ c.in-None.is in
     let found : find (has_range c.args.range.now) decoders ≡ None = find_by_position (has_range c.args.range.now) decoders ∙ rw none in
-    rw (c.from_residual.ensures, c.block-block.ensures.value) (sym found)
+    rw c.block-block.ensures.value (sym found)
 
-pub returns : goal.returns
-returns c =
+pub returns-in-Some : goal.returns-in-Some
+returns-in-Some c =
     let decoders = c.block-block.result.now.decoders in
-    let at : position (has_range c.args.range.now) decoders ≡ Some c.in_ok-i.i = sym c.index_in.ensures ∙ c.in_ok-i.was in
+    let at : position (has_range c.args.range.now) decoders ≡ Some c.in-Some.i = sym c.index_in.ensures ∙ c.in-Some.is in
     rw c.block-block.ensures.value (sym (find_by_position (has_range c.args.range.now) decoders ∙ ap (option_and_then (slice_get decoders)) at ∙ c.decoder.ensures.value))

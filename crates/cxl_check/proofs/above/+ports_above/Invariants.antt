@@ -1,4 +1,0 @@
-use Rattle.cxl_check.proofs.above.+ports_above.Given as goal
-
-abbrev pub decreases-ports_above : goal.decreases-ports_above
-decreases-ports_above l = l.node
