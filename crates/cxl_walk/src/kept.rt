@@ -66,8 +66,7 @@ impl Kept {
         let blocks = image.count();
         prove!(nodes == blocks);
         let own = own_in(alloc, image, topo, found)?;
-        let kept = Kept::along(alloc, topo, windows, found, own)?;
-        Ok(kept)
+        Kept::along(alloc, topo, windows, found, own)
     }
 
     /// The routes of a region by its own decoders. No register is read, so that they may be those of an image that is
@@ -85,8 +84,7 @@ impl Kept {
             → IsKept s w found.now kept) }
     {
         let mut none = Vec::new(alloc);
-        let kept = Kept::along_by(alloc, topo, windows, found, own, &mut none)?;
-        Ok(kept)
+        Kept::along_by(alloc, topo, windows, found, own, &mut none)
     }
 
     /// The same, with a table of likely places by node, where its decoder is sought first. The table may hold anything, so that

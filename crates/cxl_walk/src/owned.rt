@@ -64,8 +64,7 @@ pub(crate) fn own_in(
     endpoints_lie_evenly();
     slots_are_endpoints();
     let marks = marked_ways(alloc, topo, found.spans.items())?;
-    let own = own_at_marks(alloc, image, topo, found, &marks)?;
-    Ok(own)
+    own_at_marks(alloc, image, topo, found, &marks)
 }
 
 /// The decoders of a region's range in the nodes that are marked. Takes memory.

@@ -32,6 +32,12 @@ prove-unreachable-requires c =
     let past : c.count-count.result ≤ place.endpoint = c.if-prove.true in
     omega (arith, inside, count, many, past)
 
+pub put_steps-requires-clause-here : goal.put_steps-requires-clause-here
+put_steps-requires-clause-here c = omega (arith, c.if-prove.false, c.count-count.ensures.count)
+
+pub put_steps-requires-clause-own : goal.put_steps-requires-clause-own
+put_steps-requires-clause-own c = (c.requires.region.0, c.args.found.now, c.requires.region.1.are, c.requires.region.1.tree)
+
 pub own_at-requires : goal.own_at-requires
 own_at-requires c = (c.requires.region.0, c.args.found.now, c.requires.region.1.are)
 

@@ -2,6 +2,7 @@ use Rattle.std.proofs.Common.{ℕ, ◌<◌, Bool, List, length, get_or, Option, 
 use Rattle.std.specs.Prelude.{All}
 use Rattle.std.specs.List.{filter_map, range_with_len}
 use Rattle.std.proofs.lemmas.Option.{slice_get-get_or}
+use Rattle.std.proofs.lemmas.Result.{IfOk-weaker}
 use Rattle.cxl_window.specs.Fields.{WindowFields}
 use Rattle.cxl_model.specs.declared.found.Found.{Found}
 use Rattle.cxl_model.specs.declared.found.Place.{Place}
@@ -37,5 +38,6 @@ returns c =
     } in
     let marked : MarksWays s.nodes marks found.spans =
     subst (MarksWays s.nodes marks) c.items.ensures (subst (λ (bs : List Bool). MarksWays s.nodes bs c.items.result.now) (sym c.deref.ensures.value) c.in_ok-marks.ensures) in
-    c.in_ok-own.ensures
-    ∙ ap (λ (f : ℕ → Option Own). filter_map f (range_with_len 0 (length s.nodes))) (λ k n. own_marked s w found laws marks marked n k)
+    IfOk-weaker c.own_at_marks.result _ _
+    (λ own are. are ∙ ap (λ (f : ℕ → Option Own). filter_map f (range_with_len 0 (length s.nodes))) (λ k n. own_marked s w found laws marks marked n k))
+    c.own_at_marks.ensures
