@@ -1,5 +1,5 @@
 -- The route of a slot's first byte, told by the slot's span and the region's own decoders.
-use Rattle.std.proofs.Common.{◌≡◌, ℕ, ◌+◌, ◌-◌, ◌*◌, ◌/◌, ◌<◌, ◌≤◌, List, take, drop, replicate, length, get_or, Some, refl, sym, ap, subst, ◌∙◌, arith}
+use Rattle.std.proofs.Common.{◌≡◌, ℕ, ◌+◌, ◌-◌, ◌*◌, ◌/◌, ◌<◌, ◌≤◌, List, take, drop, replicate, length, get_or, Some, sym, ap, subst, ◌∙◌, arith}
 use Rattle.std.specs.Prelude.{slice_get}
 use Rattle.std.proofs.Math.Nat.{mul-pos}
 use Rattle.std.proofs.lemmas.Nat.{pow_pos}
@@ -7,10 +7,9 @@ use Rattle.std.proofs.lemmas.Option.{same_Some, slice_get-get_or, get_or_from_sl
 use Rattle.cxl_enc.proofs.Options.{some_and}
 use Rattle.cxl_enc.proofs.Numbers.{some_first_factor}
 use Rattle.cxl_num.specs.Interleave.{chunk_size}
-use Rattle.cxl_regs.specs.declared.reading.Range.{Range}
 use Rattle.cxl_window.specs.Fields.{WindowFields}
 use Rattle.cxl_window.specs.Position.{target_position}
-use Rattle.cxl_deal.specs.Weaves.{WeaveFields, IsWeave, weave_ways, turns_end, dealt_slot, dealt_offset}
+use Rattle.cxl_deal.specs.Weaves.{IsWeave, weave_ways, turns_end, dealt_slot, dealt_offset}
 use Rattle.cxl_model.specs.declared.found.Found.{Found}
 use Rattle.cxl_model.specs.declared.found.Place.{Place}
 use Rattle.cxl_model.specs.System.{System, IsSystem}
@@ -19,10 +18,9 @@ use Rattle.cxl_model.specs.Ranges.{index_for}
 use Rattle.cxl_model.specs.Regions.{region_range, IsRegionIn, weave_fields}
 use Rattle.cxl_model.specs.Bytes.{slot_length}
 use Rattle.cxl_model.specs.Dealing.{slot_steps, IsDealtRoute}
-use Rattle.cxl_walk.specs.declared.own.Own.{Own}
 use Rattle.cxl_walk.specs.declared.route.Route.{Route}
 use Rattle.cxl_walk.specs.Routes.{routing_of, no_step}
-use Rattle.cxl_walk.specs.Keeping.{own_for, IsSlotRoute, IsFirstByte}
+use Rattle.cxl_walk.specs.Keeping.{IsSlotRoute, IsFirstByte}
 use Rattle.cxl_walk.proofs.Keepings.{facts, RouteLaws, same_routing}
 
 -- some byte of the region is dealt to each slot at offset 0

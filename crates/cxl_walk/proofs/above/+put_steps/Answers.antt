@@ -1,4 +1,4 @@
-use Rattle.std.proofs.Common.{◌≡◌, ℕ, ◌+◌, ◌-◌, ◌/◌, ◌<◌, ◌≤◌, List, length, take, drop, replicate, Option, Some, None, sym, ap, subst, ◌∙◌, arith}
+use Rattle.std.proofs.Common.{◌≡◌, ℕ, ◌-◌, ◌/◌, ◌<◌, ◌≤◌, List, length, take, drop, replicate, Option, Some, None, sym, ap, subst, ◌∙◌, arith}
 use Rattle.cxl_topo.specs.declared.node.Node.{Node}
 use Rattle.cxl_topo.specs.declared.node.Parent.{Parent}
 use Rattle.cxl_topo.specs.Tree.{parent_of, ports_above}
@@ -8,9 +8,9 @@ use Rattle.cxl_model.specs.Regions.{region_range}
 use Rattle.cxl_model.specs.System.{System}
 use Rattle.cxl_model.specs.Dealing.{slot_steps}
 use Rattle.cxl_walk.specs.Routes.{no_step}
-use Rattle.cxl_walk.proofs.Slots.{IsAbove, own_found, own_ways, top_steps, top_entry, past_steps, past_entry, more_steps, less_rest, step_behind, zeros_behind}
+use Rattle.cxl_walk.proofs.Slots.{IsAbove, own_found, own_ways, past_steps, past_entry, more_steps, less_rest, step_behind, zeros_behind}
 use Rattle.cxl_walk.specs.declared.steps.StepsAbove.{StepsAbove}
-use Rattle.cxl_walk.specs.inner.Slots.{stepped, step_at}
+use Rattle.cxl_walk.specs.inner.Slots.{step_at}
 use Rattle.cxl_walk.proofs.above.+put_steps.Goals as goal
 
 -- the tree of a system over these nodes is known

@@ -1,17 +1,15 @@
-use Rattle.std.proofs.Common.{◌≡◌, ℕ, ◌<◌, ◌≤◌, true, List, length, get_or, Option, Some, refl, sym, ap, subst, ◌∙◌, arith}
+use Rattle.std.proofs.Common.{◌≡◌, ◌≤◌, length, get_or, Some, refl, sym, ap, subst, ◌∙◌, arith}
 use Rattle.std.specs.Prelude.{slice_get}
 use Rattle.std.specs.Option.{IsSome}
 use Rattle.std.proofs.lemmas.Bool.{and_parts}
 use Rattle.cxl_topo.specs.Tree.{is_endpoint_at}
 use Rattle.cxl_window.specs.Fields.{WindowFields}
 use Rattle.cxl_model.specs.declared.found.Place.{Place}
-use Rattle.cxl_model.specs.Counts.{is_endpoint_of}
 use Rattle.cxl_model.specs.Ranges.{serves}
 use Rattle.cxl_model.specs.Regions.{region_range, weave_fields}
 use Rattle.cxl_model.specs.System.{System}
 use Rattle.cxl_model.proofs.RangeRules.{served}
 use Rattle.cxl_model.proofs.RangeServers.{endpoint_inside}
-use Rattle.cxl_walk.specs.declared.own.Own.{Own}
 use Rattle.cxl_walk.specs.Keeping.{IsOwnIn}
 use Rattle.cxl_walk.proofs.Keepings.{RouteLaws}
 use Rattle.cxl_walk.proofs.Slots.{own_found, own_index, own_there}
