@@ -11,14 +11,34 @@ use Rattle.cxl_plan.specs.inner.Choices.{IsChoice}
 use Rattle.cxl_plan.proofs.FaultOrder.{has_ways, faults_6}
 use Rattle.cxl_plan.proofs.planning.plan_staged.Goals as goal
 
-pub choose-requires-clause-stages : goal.choose-requires-clause-stages
-choose-requires-clause-stages c = c.requires.stages
+pub choose-requires : goal.choose-requires
+choose-requires c = record {
+  stages = c.requires.stages;
+  sound = record { ways = c.requires.early.ways; low = c.requires.early.size.low };
+  ready = c.requires.ready;
+  uses = c.requires.uses;
+}
 
-pub plan_at-requires-clause-stages : goal.plan_at-requires-clause-stages
-plan_at-requires-clause-stages c = c.requires.stages
-
-pub choose-requires-clause-sound : goal.choose-requires-clause-sound
-choose-requires-clause-sound c = record { ways = c.requires.early.ways; low = c.requires.early.size.low }
+pub plan_at-requires : goal.plan_at-requires
+plan_at-requires c = record {
+  stages = c.requires.stages;
+  settled =
+      let s = as_system c.args.host.now in
+      let windows : List WindowFields = c.args.host.now.windows.now in
+      let found : IsChoice s c.args.request.now (Found c.in-Found.i c.in-Found.base) = subst (IsChoice s c.args.request.now) c.in-Found.is c.in-Ok.ensures in
+      let w : WindowFields = c.index-windows-i.result in
+      let inside = slice_get_within windows c.in-Found.i found.0 found.1 in
+      let same : found.0 ≡ w = same_Some found.0 w (sym found.1 ∙ slice_get-get_or windows c.in-Found.i w inside ∙ ap Some (sym c.index-windows-i.is)) in
+      let first : TakesFirst s c.args.request.now w c.in-Found.base = subst (λ (v : WindowFields). TakesFirst s c.args.request.now v c.in-Found.base) same found.2 in
+      let tree : KnownTree s.nodes = record { tree = c.requires.ready.system.tree; laws = c.requires.ready.laws } in
+      record {
+        ready = c.requires.ready;
+        tables = c.requires.uses;
+        ways = has_ways s tree c.args.request.now c.requires.ready.named c.requires.fits;
+        endpoints = c.requires.fits;
+        window = first.takes.window;
+      };
+}
 
 pub bounds-windows-i : goal.bounds-windows-i
 bounds-windows-i c =
@@ -26,82 +46,50 @@ bounds-windows-i c =
     subst (IsChoice (as_system c.args.host.now) c.args.request.now) c.in-Found.is c.in-Ok.ensures in
     slice_get_within c.args.host.now.windows.now c.in-Found.i found.0 found.1
 
-pub plan_at-requires-clause-settled : goal.plan_at-requires-clause-settled
-plan_at-requires-clause-settled c =
-    let s = as_system c.args.host.now in
-    let windows : List WindowFields = c.args.host.now.windows.now in
-    let found : IsChoice s c.args.request.now (Found c.in-Found.i c.in-Found.base) = subst (IsChoice s c.args.request.now) c.in-Found.is c.in-Ok.ensures in
-    let w : WindowFields = c.index-windows-i.result in
-    let inside = slice_get_within windows c.in-Found.i found.0 found.1 in
-    let same : found.0 ≡ w = same_Some found.0 w (sym found.1 ∙ slice_get-get_or windows c.in-Found.i w inside ∙ ap Some (sym c.index-windows-i.is)) in
-    let first : TakesFirst s c.args.request.now w c.in-Found.base = subst (λ (v : WindowFields). TakesFirst s c.args.request.now v c.in-Found.base) same found.2 in
-    let tree : KnownTree s.nodes = record { tree = c.requires.ready.system.tree; laws = c.requires.ready.laws } in
-    record {
-      ready = c.requires.ready;
-      tables = c.requires.uses;
-      ways = has_ways s tree c.args.request.now c.requires.ready.named c.requires.fits;
-      endpoints = c.requires.fits;
-      window = first.takes.window;
-    }
+pub returns-in-Nowhere : goal.returns-in-Nowhere
+returns-in-Nowhere c = record {
+  fault = λ not_memory.
+      let s = as_system c.args.host.now in
+      let none : IsChoice s c.args.request.now (Nowhere c.in-Nowhere.reasons) = subst (IsChoice s c.args.request.now) c.in-Nowhere.is c.in-Ok.ensures in
+      record {
+        holds = subst (λ (rs : List Reason). AreReasons s c.args.request.now rs) (sym c.new.ensures) none;
+        first = faults_6 s c.args.request.now c.requires.early c.requires.fits;
+      };
+  endpoints = tt;
+  plan = tt;
+}
 
-pub returns-in-Nowhere-clause-fault : goal.returns-in-Nowhere-clause-fault
-returns-in-Nowhere-clause-fault c not_memory =
-    let s = as_system c.args.host.now in
-    let none : IsChoice s c.args.request.now (Nowhere c.in-Nowhere.reasons) = subst (IsChoice s c.args.request.now) c.in-Nowhere.is c.in-Ok.ensures in
-    record {
-      holds = subst (λ (rs : List Reason). AreReasons s c.args.request.now rs) (sym c.new.ensures) none;
-      first = faults_6 s c.args.request.now c.requires.early c.requires.fits;
-    }
+pub returns-in-Ok-plan_at : goal.returns-in-Ok-plan_at
+returns-in-Ok-plan_at c = record {
+  plan =
+      let s = as_system c.args.host.now in
+      let windows : List WindowFields = c.args.host.now.windows.now in
+      let found : IsChoice s c.args.request.now (Found c.in-Found.i c.in-Found.base) = subst (IsChoice s c.args.request.now) c.in-Found.is c.in-Ok.ensures in
+      let w : WindowFields = c.index-windows-i.result in
+      let inside = slice_get_within windows c.in-Found.i found.0 found.1 in
+      let same : found.0 ≡ w = same_Some found.0 w (sym found.1 ∙ slice_get-get_or windows c.in-Found.i w inside ∙ ap Some (sym c.index-windows-i.is)) in
+      let first : TakesFirst s c.args.request.now w c.in-Found.base = subst (λ (v : WindowFields). TakesFirst s c.args.request.now v c.in-Found.base) same found.2 in
+      let plan = c.in-Ok-plan_at.plan in
+      let stated : IsStatedPlan s c.args.request.now w c.in-Found.base plan = c.in-Ok-plan_at.ensures in
+      record {
+        window = w;
+        first = subst (λ (b : ℕ). TakesFirst s c.args.request.now w b) (sym stated.starts) first;
+        stated = subst (λ (b : ℕ). IsStatedPlan s c.args.request.now w b plan) (sym stated.starts) stated;
+      };
+  endpoints = c.requires.fits;
+  fault = tt;
+}
 
-pub returns-in-Ok-plan_at-clause-plan : goal.returns-in-Ok-plan_at-clause-plan
-returns-in-Ok-plan_at-clause-plan c =
-    let s = as_system c.args.host.now in
-    let windows : List WindowFields = c.args.host.now.windows.now in
-    let found : IsChoice s c.args.request.now (Found c.in-Found.i c.in-Found.base) = subst (IsChoice s c.args.request.now) c.in-Found.is c.in-Ok.ensures in
-    let w : WindowFields = c.index-windows-i.result in
-    let inside = slice_get_within windows c.in-Found.i found.0 found.1 in
-    let same : found.0 ≡ w = same_Some found.0 w (sym found.1 ∙ slice_get-get_or windows c.in-Found.i w inside ∙ ap Some (sym c.index-windows-i.is)) in
-    let first : TakesFirst s c.args.request.now w c.in-Found.base = subst (λ (v : WindowFields). TakesFirst s c.args.request.now v c.in-Found.base) same found.2 in
-    let plan = c.in-Ok-plan_at.plan in
-    let stated : IsStatedPlan s c.args.request.now w c.in-Found.base plan = c.in-Ok-plan_at.ensures in
-    record {
-      window = w;
-      first = subst (λ (b : ℕ). TakesFirst s c.args.request.now w b) (sym stated.starts) first;
-      stated = subst (λ (b : ℕ). IsStatedPlan s c.args.request.now w b plan) (sym stated.starts) stated;
-    }
+pub returns-in_default : goal.returns-in_default
+returns-in_default c = record {
+  fault = λ not_memory. absurd (not_memory refl);
+  endpoints = tt;
+  plan = tt;
+}
 
-pub choose-requires-clause-ready : goal.choose-requires-clause-ready
-choose-requires-clause-ready c = c.requires.ready
-
-pub choose-requires-clause-uses : goal.choose-requires-clause-uses
-choose-requires-clause-uses c = c.requires.uses
-
-pub returns-in_default-clause-fault : goal.returns-in_default-clause-fault
-returns-in_default-clause-fault c not_memory = absurd (not_memory refl)
-
-pub returns-in-Err-clause-fault : goal.returns-in-Err-clause-fault
-returns-in-Err-clause-fault c not_memory = absurd (not_memory refl)
-
-pub returns-in-Ok-plan_at-clause-endpoints : goal.returns-in-Ok-plan_at-clause-endpoints
-returns-in-Ok-plan_at-clause-endpoints c = c.requires.fits
-
-pub returns-in_default-clause-endpoints : goal.returns-in_default-clause-endpoints
-returns-in_default-clause-endpoints c = tt
-
-pub returns-in_default-clause-plan : goal.returns-in_default-clause-plan
-returns-in_default-clause-plan c = tt
-
-pub returns-in-Ok-plan_at-clause-fault : goal.returns-in-Ok-plan_at-clause-fault
-returns-in-Ok-plan_at-clause-fault c = tt
-
-pub returns-in-Err-clause-endpoints : goal.returns-in-Err-clause-endpoints
-returns-in-Err-clause-endpoints c = tt
-
-pub returns-in-Err-clause-plan : goal.returns-in-Err-clause-plan
-returns-in-Err-clause-plan c = tt
-
-pub returns-in-Nowhere-clause-endpoints : goal.returns-in-Nowhere-clause-endpoints
-returns-in-Nowhere-clause-endpoints c = tt
-
-pub returns-in-Nowhere-clause-plan : goal.returns-in-Nowhere-clause-plan
-returns-in-Nowhere-clause-plan c = tt
+pub returns-in-Err : goal.returns-in-Err
+returns-in-Err c = record {
+  fault = λ not_memory. absurd (not_memory refl);
+  endpoints = tt;
+  plan = tt;
+}
