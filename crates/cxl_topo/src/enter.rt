@@ -9,7 +9,6 @@ ghost use Rattle.cxl_topo.specs.inner.Tables.{ListsNames, ListsBridges};
 use crate::node::{Node, NodeKind};
 use crate::tables::NameKey;
 use std::alloc::AllocError;
-use std::collections::hash_map::Entry;
 use std::collections::{BTreeMap, HashMap};
 
 /// Enters the number of a node under a key, unless an earlier node has that key.
@@ -24,7 +23,7 @@ pub fn enter_first<K: Ord + Copy>(
     Ok(())
 }
 
-/// Enters node `i` under its name, unless an earlier node has that name, and tells whether one has.
+/// Enters node `i` under its name, and tells whether an earlier node had that name, which then loses it.
 pub(crate) fn enter_name(
     table: &mut HashMap<NameKey, u32>,
     nodes: &[Node],
@@ -37,13 +36,8 @@ pub(crate) fn enter_name(
     ensures taken { IfOk result (λ taken. taken ≡ has_taken_name (take i nodes.now) node.now) }
     ensures entered { IfOk result (λ taken. taken ≡ false → ListsNames (take (i + 1) nodes.now) table.new) }
 {
-    match table.entry(NameKey::of(&node.name))? {
-        Entry::Occupied(_) => Ok(true),
-        Entry::Vacant(place) => {
-            place.insert(i);
-            Ok(false)
-        }
-    }
+    let earlier = table.insert(NameKey::of(&node.name), i)?;
+    Ok(earlier.is_some())
 }
 
 /// Enters node `i` under its UID, where it is a bridge.
