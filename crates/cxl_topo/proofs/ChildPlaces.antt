@@ -145,6 +145,13 @@ few nodes i lt = omega (arith, length-take i nodes)
 pub parent_at : (nodes : List Node) (i : ℕ) (node : Node) (parent : Parent) → i < length nodes → node ≡ get_or nodes i node → node.parent ≡ Some parent → parent_of nodes i ≡ Some parent
 parent_at nodes i node parent lt is under = parent_there nodes i node (Some parent) (slice_get-get_or nodes i node lt ∙ ap Some (sym is)) under
 
+-- the parent of a node that lacks none is one of the nodes
+pub parent_within : (nodes : List Node) (i : ℕ) (node : Node) → slice_get nodes i ≡ Some node → lacks_parent (take i nodes) node ≡ false → (parent : Parent) → parent_of nodes i ≡ Some parent → parent.node < length nodes
+parent_within nodes i node here sound parent is =
+    let own : node.parent ≡ Some parent = rw here at is in
+    let low = parent_listed (take i nodes) node parent own sound in
+    omega (arith, low, length-take i nodes)
+
 -- where a node's port is not taken, no earlier node stands there
 pub free_port : (nodes : List Node) (i : ℕ) (node : Node) → slice_get nodes i ≡ Some node → has_taken_port (take i nodes) node ≡ false → (parent : Parent) → parent_of nodes i ≡ Some parent → child_of (take i nodes) parent.node parent.port ≡ None
 free_port nodes i node here free parent is =

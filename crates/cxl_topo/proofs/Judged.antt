@@ -1,8 +1,8 @@
 -- What the tests of a node say, one after another.
 use Rattle.std.proofs.Common.{◌≡◌, ℕ, zero, suc, ◌+◌, ◌*◌, ◌<◌, ◌≤◌, Bool, true, false, List, [], ◌∷◌, length, get_or, Option, Some, None, refl, sym, ap, ◌∙◌, inl, inr, arith}
-use Rattle.std.specs.Prelude.{slice_get, nat_le, nat_lt, if◌then◌else◌}
+use Rattle.std.specs.Prelude.{slice_get, count_by, take, nat_le, nat_lt, if◌then◌else◌}
 use Rattle.std.specs.Option.{option_map_or}
-use Rattle.std.proofs.lemmas.Bool.{cases_lt}
+use Rattle.std.proofs.lemmas.Bool.{cases_lt, or_parts, ltb-false}
 use Rattle.std.proofs.lemmas.Option.{get_or_from_slice_get}
 use Rattle.std.proofs.lemmas.Bool.Decides.{nat_tests}
 use Rattle.cxl_topo.specs.declared.node.Node.{Node}
@@ -11,7 +11,8 @@ use Rattle.cxl_topo.specs.declared.node.NodeKind.TheVariants.{Switch}
 use Rattle.cxl_topo.specs.declared.fault.TreeFault.{TreeFault}
 use Rattle.cxl_topo.specs.declared.fault.TreeFault.TheVariants as faults
 use Rattle.cxl_topo.specs.Tree.{parent_of, path_of, ports_above}
-use Rattle.cxl_topo.specs.Faults.{is_too_deep, switches_above, are_too_many, fits, turn_of, NoneBefore, IsFirstTreeFault}
+use Rattle.cxl_topo.specs.Kinds.{is_bridge}
+use Rattle.cxl_topo.specs.Faults.{lacks_parent, is_too_deep, switches_above, are_too_many, fits, turn_of, NoneBefore, IsFirstTreeFault}
 use Rattle.cxl_topo.specs.inner.Judging.{first_of, tests_of}
 use Rattle.cxl_topo.proofs.Sound.{no_lack}
 use Rattle.cxl_topo.proofs.PathsUp.{parent_under, length-ports_above, ports_above-more, ports_from, length-path_of}
@@ -134,6 +135,14 @@ module _ (nodes : List Node) (i : ℕ) (node : Node) (here : slice_get nodes i �
   pub none_at : NoneBefore nodes (8 * i + 1) → first_of (tests_of nodes i node) ≡ None → NoneBefore nodes (8 * i + 9)
   none_at none e = NoneBefore-less nodes (8 * i + 9) (8 * i + 1 + 8) (omega arith) (none_up_to none 8 (omega arith) (not_found (tests_of nodes i node) e))
 
+  -- the first test alone
+  pub none_lacks : NoneBefore nodes (8 * i + 1) → lacks_parent (take i nodes) node ≡ false → NoneBefore nodes (8 * i + 2)
+  none_lacks none passed = NoneBefore-less nodes (8 * i + 2) (8 * i + 1 + 1) (omega arith) (none_up_to none 1 (omega arith) only)
+    where
+      only : (k : ℕ) → k < 1 → (get_or (tests_of nodes i node) k nothing).0 ≡ false
+      only zero lt = passed
+      only (suc k) lt = absurd (omega arith)
+
   -- the first test that holds gives the first fault
   pub some_at : NoneBefore nodes (8 * i + 1) → (fault : TreeFault) → first_of (tests_of nodes i node) ≡ Some fault → IsFirstTreeFault nodes fault
   some_at none fault e =
@@ -156,6 +165,10 @@ passes fault others is answer = rw is answer
 
 pub node_is : (nodes : List Node) (i : ℕ) (node own : Node) → i < length nodes → own ≡ get_or nodes i own → slice_get nodes i ≡ Some node → node ≡ own
 node_is nodes i node own lt is here = sym (get_or_from_slice_get nodes i node own here) ∙ sym is
+
+-- nodes that are not too many are few
+pub few_nodes : (nodes : List Node) → are_too_many nodes ≡ false → length nodes ≤ 1024
+few_nodes nodes few = ltb-false 1024 (length nodes) (or_parts (nat_lt 1024 (length nodes)) (nat_lt 64 (count_by (λ (node : Node). is_bridge node.kind) nodes)) few).0
 
 -- before the first node only their number is judged
 pub none_at_first : (nodes : List Node) → are_too_many nodes ≡ false → NoneBefore nodes 1

@@ -122,7 +122,8 @@ fn has_taken_port(tables: &Tables, node: &Node) -> bool
 }
 
 fn forks(earlier: &[Node], tables: &Tables, node: &Node) -> bool
-    ensures { (count : ℕ) → ListsChildren count earlier.now tables.now.children → length earlier.now ≤ count → lacks_parent earlier.now node.now ≡ false → result ≡ forks earlier.now node.now }
+    requires { lacks_parent earlier.now node.now ≡ false }
+    ensures { (count : ℕ) → ListsChildren count earlier.now tables.now.children → length earlier.now ≤ count → result ≡ forks earlier.now node.now }
 {
     match node.parent {
         Some(parent) => forwards(earlier, parent.node)
@@ -132,12 +133,10 @@ fn forks(earlier: &[Node], tables: &Tables, node: &Node) -> bool
 }
 
 fn forwards(nodes: &[Node], i: u32) -> bool
+    requires { i < length nodes.now }
     ensures { result ≡ forwards_at nodes.now i }
 {
-    match nodes.get(i as usize) {
-        Some(node) => node.forwards,
-        None => false,
-    }
+    nodes[i as usize].forwards
 }
 
 fn has_taken_uid(tables: &Tables, node: &Node) -> bool

@@ -85,8 +85,8 @@ impl Tables {
         requires { count ≤ node_limit }
         ensures { IfOk result (AreTables count []) }
     {
-        let children = Children::new(alloc, count)?;
         let names = HashMap::with_capacity(alloc, count)?;
+        let children = Children::new(alloc, count)?;
         Ok(Tables {
             children,
             names,

@@ -89,7 +89,7 @@ impl Topo {
         requires { node < length self.now.nodes }
         ensures { result ≡ is_endpoint_at self.now.nodes node }
     {
-        self.nodes[node as usize].is_endpoint()
+        self.node(node).is_endpoint()
     }
 
     /// Whether a node is a port: a bridge or a switch.
@@ -97,7 +97,7 @@ impl Topo {
         requires { node < length self.now.nodes }
         ensures { result ≡ is_port_at self.now.nodes node }
     {
-        !self.nodes[node as usize].is_endpoint()
+        !self.node(node).is_endpoint()
     }
 
     /// Whether a node forwards.
@@ -105,7 +105,7 @@ impl Topo {
         requires { node < length self.now.nodes }
         ensures { result ≡ forwards_at self.now.nodes node }
     {
-        self.nodes[node as usize].forwards
+        self.node(node).forwards
     }
 
     /// The child of a node at a port, `None` exactly where there is none.
