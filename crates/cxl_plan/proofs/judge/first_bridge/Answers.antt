@@ -9,29 +9,31 @@ use Rattle.cxl_plan.proofs.judge.first_bridge.Goals as goal
 pub node-requires : goal.node-requires
 node-requires c = item_inside c.args.topo.now.nodes c.args.request.now c.deref-node-items.result.now (c.deref-node-items.ensures.value ∙ c.requires.listed) c.loop-node.node-index (omega arith)
 
-pub returns-then-is_bridge-clause-first : goal.returns-then-is_bridge-clause-first
-returns-then-is_bridge-clause-first c =
-    let nodes = c.args.topo.now.nodes in
-    let items = c.deref-node-items.result.now in
-    let i = c.loop-node.node-index in
-    let is = c.deref-node-items.ensures.value ∙ c.requires.listed in
-    let here : is_bridge_at nodes (get_or items i 0) ≡ true = rw c.node.ensures (sym c.is_bridge.ensures ∙ c.if-is_bridge.true) in
-    least_item nodes c.args.request.now items is (λ n. is_bridge_at nodes n && is_used (tree_alone nodes) c.args.request.now n)
-    (λ n both. (and_parts (is_bridge_at nodes n) (is_used (tree_alone nodes) c.args.request.now n) both).1) i (omega arith)
-    (λ j below. rw (c.loop-node.invariant j below) refl)
-    (and_from (is_bridge_at nodes (get_or items i 0)) (is_used (tree_alone nodes) c.args.request.now (get_or items i 0)) here (item_used nodes c.args.request.now items is i (omega arith)))
+pub returns-then-is_bridge : goal.returns-then-is_bridge
+returns-then-is_bridge c = record {
+  first =
+      let nodes = c.args.topo.now.nodes in
+      let items = c.deref-node-items.result.now in
+      let i = c.loop-node.node-index in
+      let is = c.deref-node-items.ensures.value ∙ c.requires.listed in
+      let here : is_bridge_at nodes (get_or items i 0) ≡ true = rw c.node.ensures (sym c.is_bridge.ensures ∙ c.if-is_bridge.true) in
+      least_item nodes c.args.request.now items is (λ n. is_bridge_at nodes n && is_used (tree_alone nodes) c.args.request.now n)
+      (λ n both. (and_parts (is_bridge_at nodes n) (is_used (tree_alone nodes) c.args.request.now n) both).1) i (omega arith)
+      (λ j below. rw (c.loop-node.invariant j below) refl)
+      (and_from (is_bridge_at nodes (get_or items i 0)) (is_used (tree_alone nodes) c.args.request.now (get_or items i 0)) here (item_used nodes c.args.request.now items is i (omega arith)));
+  inside = item_inside c.args.topo.now.nodes c.args.request.now c.deref-node-items.result.now (c.deref-node-items.ensures.value ∙ c.requires.listed) c.loop-node.node-index (omega arith);
+  used = item_used c.args.topo.now.nodes c.args.request.now c.deref-node-items.result.now (c.deref-node-items.ensures.value ∙ c.requires.listed) c.loop-node.node-index (omega arith);
+}
 
-pub returns-then-is_bridge-clause-inside : goal.returns-then-is_bridge-clause-inside
-returns-then-is_bridge-clause-inside c = item_inside c.args.topo.now.nodes c.args.request.now c.deref-node-items.result.now (c.deref-node-items.ensures.value ∙ c.requires.listed) c.loop-node.node-index (omega arith)
-
-pub returns-then-is_bridge-clause-used : goal.returns-then-is_bridge-clause-used
-returns-then-is_bridge-clause-used c = item_used c.args.topo.now.nodes c.args.request.now c.deref-node-items.result.now (c.deref-node-items.ensures.value ∙ c.requires.listed) c.loop-node.node-index (omega arith)
-
-pub returns-clause-first : goal.returns-clause-first
-returns-clause-first c =
-    let nodes = c.args.topo.now.nodes in
-    let items = c.deref-node-items.result.now in
-    let is = c.deref-node-items.ensures.value ∙ c.requires.listed in
-    no_item nodes c.args.request.now items is (λ n. is_bridge_at nodes n && is_used (tree_alone nodes) c.args.request.now n)
-    (λ n both. (and_parts (is_bridge_at nodes n) (is_used (tree_alone nodes) c.args.request.now n) both).1) c.loop-node.node-index (omega arith)
-    (λ j below. rw (c.loop-node.invariant j below) refl)
+pub returns : goal.returns
+returns c = record {
+  first =
+      let nodes = c.args.topo.now.nodes in
+      let items = c.deref-node-items.result.now in
+      let is = c.deref-node-items.ensures.value ∙ c.requires.listed in
+      no_item nodes c.args.request.now items is (λ n. is_bridge_at nodes n && is_used (tree_alone nodes) c.args.request.now n)
+      (λ n both. (and_parts (is_bridge_at nodes n) (is_used (tree_alone nodes) c.args.request.now n) both).1) c.loop-node.node-index (omega arith)
+      (λ j below. rw (c.loop-node.invariant j below) refl);
+  inside = tt;
+  used = tt;
+}

@@ -11,14 +11,14 @@ overflow_cast-ways c =
     let count = ap length c.items.ensures in
     omega (arith, few, count)
 
-pub place_of-requires-clause-settled : goal.place_of-requires-clause-settled
-place_of-requires-clause-settled c = c.requires
-
-pub place_of-requires-clause-slot : goal.place_of-requires-clause-slot
-place_of-requires-clause-slot c =
-    let few = few_ways (request_ways c.args.request.now) c.requires.endpoints.ways in
-    let count = ap length c.items.ensures in
-    omega (arith, few, count, c.loop-slot-test.true)
+pub place_of-requires : goal.place_of-requires
+place_of-requires c = record {
+  settled = c.requires;
+  slot =
+      let few = few_ways (request_ways c.args.request.now) c.requires.endpoints.ways in
+      let count = ap length c.items.ensures in
+      omega (arith, few, count, c.loop-slot-test.true);
+}
 
 pub loop-slot-init : goal.loop-slot-init
 loop-slot-init c = no_places (as_system c.args.host.now) c.args.request.now c.args.w.now c.in_ok-places.places.items c.in_ok-places.ensures.items
@@ -27,11 +27,11 @@ pub loop-slot-preserved : goal.loop-slot-preserved
 loop-slot-preserved c =
     one_place_more (as_system c.args.host.now) c.args.request.now c.args.w.now c.loop-slot.slot c.loop-slot.places.items c.push.new.self.items c.place_of.result c.loop-slot.invariant c.in_ok-push.ensures.items c.place_of.ensures
 
-pub returns-clause-slots : goal.returns-clause-slots
-returns-clause-slots c =
-    let known = c.loop-slot.invariant.count in
-    let count = ap length c.items.ensures in
-    omega (arith, known, count, c.loop-slot.auto.slot-end, c.loop-slot-test.false)
-
-pub returns-clause-places : goal.returns-clause-places
-returns-clause-places c = c.loop-slot.invariant.each
+pub returns : goal.returns
+returns c = record {
+  slots =
+      let known = c.loop-slot.invariant.count in
+      let count = ap length c.items.ensures in
+      omega (arith, known, count, c.loop-slot.auto.slot-end, c.loop-slot-test.false);
+  places = c.loop-slot.invariant.each;
+}
