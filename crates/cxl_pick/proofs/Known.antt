@@ -1,5 +1,5 @@
 -- What is known is what nodes give.
-use Rattle.std.proofs.Common.{◌≡◌, ◌≢◌, ℕ, zero, suc, ◌+◌, ◌*◌, ◌/◌, ◌%◌, ◌<◌, ◌≤◌, Bool, true, false, ◌&&◌, ◌||◌, not, if◌then◌else◌, cond, List, [], ◌∷◌, ◌++◌, length, get_or, set, filter, Option, Some, None, refl, sym, ap, ◌∙◌, subst, inl, inr, arith}
+use Rattle.std.proofs.Common.{◌≡◌, ◌≢◌, ℕ, zero, suc, ◌+◌, ◌*◌, ◌/◌, ◌%◌, ◌<◌, ◌≤◌, Bool, true, false, ◌&&◌, ◌||◌, not, if◌then◌else◌, cond, List, [], ◌∷◌, ◌++◌, length, get_or, set, replicate, filter, Option, Some, None, refl, sym, ap, ◌∙◌, subst, inl, inr, arith}
 use Rattle.std.specs.Prelude.{◌==◌, nat_le, take, find, option_map, unwrap_or, is_some, slice_get, IsSomeAnd, Contains}
 use Rattle.std.specs.Option.{option_map_or}
 use Rattle.std.specs.List.{filter_map, flat_map, cons_option}
@@ -325,8 +325,7 @@ set_there xs x i within =
 pub of_there : {X : Type 0} (o : Option X) (x : X) (P : X → Type 0) → o ≡ Some x → IsSomeAnd o P → P x
 of_there o x P is holds = subst (λ p. IsSomeAnd p P) is holds
 
-pub none_pushed : (xs : List (Option Gift)) → ((n : ℕ) → get_or xs n None ≡ None) → (n : ℕ) → get_or (xs ++ None ∷ []) n None ≡ None
-none_pushed [] each zero = refl
-none_pushed [] each (suc n) = refl
-none_pushed (x ∷ xs) each zero = each 0
-none_pushed (x ∷ xs) each (suc n) = none_pushed xs (λ k. each (suc k)) n
+pub same_at_each : {X : Type 0} (x : X) (count n : ℕ) → get_or (replicate count x) n x ≡ x
+same_at_each x zero n = refl
+same_at_each x (suc count) zero = refl
+same_at_each x (suc count) (suc n) = same_at_each x count n

@@ -104,10 +104,7 @@ fn no_gifts(alloc: Global, count: u32, code: u8, third: u8) -> Result<Gifts, All
         → third_of w.ways ≡ third → start ≤ address_limit → IsAsked want gifts w start) }
     ensures gifts { IfOk result (λ gifts. (s : System) (want : Want) → length s.nodes ≡ count → AreGifts s want gifts) }
 {
-    let mut known = Vec::with_capacity(alloc, count as usize)?;
-    for _node in 0..count {
-        known.push(None)?;
-    }
+    let known = vec![in alloc; None; count as usize]?;
     Ok(Gifts {
         code,
         third,

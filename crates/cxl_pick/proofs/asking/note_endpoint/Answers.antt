@@ -14,21 +14,21 @@ note-requires c =
     let here = c.requires.here in
     omega (arith, count, here)
 
-pub returns-clause-gifts : goal.returns-clause-gifts
-returns-clause-gifts c =
-    let s = as_system c.args.host.now in
-    let want = c.args.want.now in
-    c.note.ensures.gifts s want (c.narrow.ensures.gifts want c.requires.gifts)
-    (λ v b asked.
-    gift_for c.endpoint_gift-gift.result (λ m. if (m == 1) && can_serve_itself s want c.args.w.now c.args.start c.args.node then 1 else 0) (used s want v b c.args.node)
-    (λ m few.
-    endpoint_gift_is s want c.args.w.now v c.args.start b c.args.node m c.narrow.new.gifts (c.narrow.ensures.asked want c.args.w.now c.requires.asked) asked (c.narrow.ensures.alike want v b asked) c.requires.endpoint)
-    c.endpoint_gift-gift.ensures)
-    (λ port. absurd (false≢true (sym port ∙ c.requires.endpoint)))
-
-pub returns-clause-asked : goal.returns-clause-asked
-returns-clause-asked c = c.note.ensures.asked c.args.want.now c.args.w.now c.args.start (c.narrow.ensures.asked c.args.want.now c.args.w.now c.requires.asked)
-
-pub returns-clause-kept : goal.returns-clause-kept
-returns-clause-kept c = λ n there.
-    c.note.ensures.kept n (subst (λ (known : Vec (Option Gift) Global). is_known known.items n ≡ true) (sym c.narrow.ensures.known) there)
+pub returns : goal.returns
+returns c = record {
+  gifts =
+      let s = as_system c.args.host.now in
+      let want = c.args.want.now in
+      c.note.ensures.gifts s want (c.narrow.ensures.gifts want c.requires.gifts)
+      (λ v b asked.
+      gift_for c.endpoint_gift-gift.result (λ m. if (m == 1) && can_serve_itself s want c.args.w.now c.args.start c.args.node then 1 else 0) (used s want v b c.args.node)
+      (λ m few.
+      endpoint_gift_is s want c.args.w.now v c.args.start b c.args.node m c.narrow.new.gifts (c.narrow.ensures.asked want c.args.w.now c.requires.asked) asked (c.narrow.ensures.alike want v b asked) c.requires.endpoint)
+      c.endpoint_gift-gift.ensures)
+      (λ port. absurd (false≢true (sym port ∙ c.requires.endpoint)));
+  asked = c.note.ensures.asked c.args.want.now c.args.w.now c.args.start (c.narrow.ensures.asked c.args.want.now c.args.w.now c.requires.asked);
+  kept =
+      λ n there.
+      c.note.ensures.kept n (subst (λ (known : Vec (Option Gift) Global). is_known known.items n ≡ true) (sym c.narrow.ensures.known) there);
+  here = c.note.ensures.here;
+}

@@ -22,17 +22,17 @@ all_given-requires-clause-asked c =
     let at = item_there c.table_for.new.tables.items c.in_ok-place.place (λ gifts. IsAsked c.args.want.now gifts c.args.w.now c.in-Some.start) c.index_mut.result.now c.in_ok-place.ensures.asked in
     subst (λ (gifts : Gifts). IsAsked c.args.want.now gifts c.args.w.now c.in-Some.start) (sym c.index_mut.ensures.value) at.1
 
-pub returns-clause-tables : goal.returns-clause-tables
-returns-clause-tables c =
-    let s : System = as_system c.args.host.now in
-    on_ok c.all_given.result (AreGifts s c.args.want.now c.all_given.new.gifts) _ c.all_given.ensures.gifts
-    (λ own. All-set (AreGifts s c.args.want.now) c.table_for.new.tables.items c.in_ok-place.place c.all_given.new.gifts own c.in_ok-place.ensures.tables)
-
-pub returns-clause-given : goal.returns-clause-given
-returns-clause-given c =
-    let s : System = as_system c.args.host.now in
-    let want = c.args.want.now in
-    let w = c.args.w.now in
-    if_ok c.all_given.result (λ o. option_map (λ (given : Vec ℕ Global). given.items) o ≡ all_given (map (at_target s want w c.in-Some.start) w.targets)) (λ o. option_map (λ (given : Vec ℕ Global). given.items) o ≡ given_in s want w)
-    (λ o given. given ∙ given_from s want w c.in-Some.start (sym c.can_take.ensures ∙ c.if-not-can_take.false) (sym c.in-Some.ensures.start))
-    c.all_given.ensures.given
+pub returns : goal.returns
+returns c = record {
+  tables =
+      let s : System = as_system c.args.host.now in
+      on_ok c.all_given.result (AreGifts s c.args.want.now c.all_given.new.gifts) _ c.all_given.ensures.gifts
+      (λ own. All-set (AreGifts s c.args.want.now) c.table_for.new.tables.items c.in_ok-place.place c.all_given.new.gifts own c.in_ok-place.ensures.tables);
+  given =
+      let s : System = as_system c.args.host.now in
+      let want = c.args.want.now in
+      let w = c.args.w.now in
+      if_ok c.all_given.result (λ o. option_map (λ (given : Vec ℕ Global). given.items) o ≡ all_given (map (at_target s want w c.in-Some.start) w.targets)) (λ o. option_map (λ (given : Vec ℕ Global). given.items) o ≡ given_in s want w)
+      (λ o given. given ∙ given_from s want w c.in-Some.start (sym c.can_take.ensures ∙ c.if-not-can_take.false) (sym c.in-Some.ensures.start))
+      c.all_given.ensures.given;
+}
