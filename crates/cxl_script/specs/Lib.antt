@@ -2,3 +2,4 @@ pub mod Words
 pub mod Verbs
 pub mod Reading
 pub mod Grammar
+pub mod inner
