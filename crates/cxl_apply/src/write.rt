@@ -1,7 +1,7 @@
 //! One write of a job, and what a step of it came to.
 
 /// One register write of a job, and the value that takes it back.
-#[derive(Clone, Copy, PartialEq, Eq)]
+#[derive(Clone, Copy)]
 pub struct Write {
     pub node: u32,
     /// The offset of the word in the node's block, in bytes.
