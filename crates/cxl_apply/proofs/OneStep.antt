@@ -12,6 +12,8 @@ use Rattle.cxl_bus.specs.Failed.{HasFailedAt, HasFailed}
 use Rattle.cxl_bus.specs.RegsState.{RegsState}
 use Rattle.cxl_regs.specs.Registers.{Registers}
 use Rattle.cxl_regs.specs.Blocks.{IsPlace, HasPlacesOf, blocks_after}
+use Rattle.cxl_apply.specs.declared.write.Stepped.{Stepped}
+use Rattle.cxl_apply.specs.declared.write.Stepped.TheVariants.{Done, More}
 use Rattle.cxl_apply.specs.declared.write.Write.{Write}
 use Rattle.cxl_apply.specs.Jobs.{AreTakenBack, blocks_after_write, blocks_done}
 use Rattle.cxl_apply.specs.Steps.{HasWordsOf, IsSent, MakesWrite, TakesBack}
@@ -30,6 +32,14 @@ module _ {T E : Type 0} (r : Result T E) (old new : RegsState) where
   pub write_sent : OnOk r (new.failed_at ≡ old.failed_at) → old.faults ≤ new.faults → new.counts_failures_alone ≡ old.counts_failures_alone
       → OnOk r (LeavesCount old.counts_failures_alone old.faults new.faults) → is_err r ≡ false → HasFailed old new []
   write_sent at counts alone left fine = fails_none old new (at_ok r _ at fine) counts alone (at_ok r _ left fine)
+
+-- the last write is told as such, and each other one as one with more to come
+module _ (stepped : Stepped) (Last : Type 0) where
+  pub told_last : stepped ≡ Done → Last → (stepped ≡ Done → Last) × (Last → stepped ≡ Done)
+  told_last is last = (λ _. last, λ _. is)
+
+  pub told_more : stepped ≡ More → (Last → ⊥) → (stepped ≡ Done → Last) × (Last → stepped ≡ Done)
+  told_more is never = (λ done. absurd (let e : More ≡ Done = sym is ∙ done in cc), λ last. absurd (never last))
 
 -- the places of words stay
 pub keeps_words : ((blocks : List Registers) (node off v : ℕ) → HasPlacesOf blocks (blocks_after blocks node off v)) → (blocks left : List Registers) (ws : List Write) (node off v : ℕ)

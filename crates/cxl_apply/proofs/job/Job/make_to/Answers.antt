@@ -1,8 +1,9 @@
-use Rattle.std.proofs.Common.{◌≡◌, ◌≢◌, sym, ap, ◌∙◌, arith, rules}
+use Rattle.std.proofs.Common.{◌≡◌, ◌≢◌, List, length, sym, ap, ◌∙◌, arith, rules}
 use Rattle.std.proofs.lemmas.Bool.{false≢true}
 use Rattle.cxl_apply.specs.contracts.write.Stepped.{the_type}
 use Rattle.cxl_apply.specs.declared.write.Stepped.{Stepped}
 use Rattle.cxl_apply.specs.declared.write.Stepped.TheVariants.{BusFault}
+use Rattle.cxl_apply.specs.declared.write.Write.{Write}
 use Rattle.cxl_apply.proofs.LoopJobs.{forward_none, forward_on, forward_failed}
 use Rattle.cxl_apply.proofs.job.Job.make_to.Goals as goal
 use denote.Enum.Bare.{sameb, same_true}
@@ -15,6 +16,13 @@ loop-self-preserved g c =
     let other : c.step.result ≢ BusFault = (λ e. false≢true (c.if-eq.ensures ∙ ap (λ (r : Stepped). sameb the_type r BusFault) e)) in
     forward_on c.step.result c.args.upto _ _ _ _ _ _ _ _ _ c.loop-self.invariant (let test = c.loop-self-test.true in let done = c.done.ensures.value in omega arith) c.step.ensures.event other c.step.ensures.on_way
     c.step.ensures.kept_words c.step.ensures.kept_same c.step.ensures.counts c.step.ensures.alone c.step.ensures.unswallowed c.step.ensures.unfailed
+
+pub step-requires : goal.step-requires
+step-requires g c = record {
+  left = omega (arith, c.loop-self-test.true, c.done.ensures.value, c.requires.within, ap (λ (ws : List Write). length ws) c.loop-self.invariant.writes);
+  words = c.loop-self.invariant.words;
+  same = c.loop-self.invariant.same;
+}
 
 pub returns-then-eq-clause-failed : goal.returns-then-eq-clause-failed
 returns-then-eq-clause-failed g c =

@@ -1,4 +1,4 @@
-use Rattle.std.proofs.Common.{◌≡◌, ◌+◌, ◌<◌, false, List, length, sym, ap, subst, ◌∙◌}
+use Rattle.std.proofs.Common.{◌≡◌, ◌+◌, ◌<◌, false, List, length, sym, ap, subst, ◌∙◌, arith}
 use Rattle.std.specs.Result.{is_err}
 use Rattle.cxl_regs.specs.Registers.{Registers}
 use Rattle.cxl_regs.specs.Blocks.{blocks_after}
@@ -6,7 +6,7 @@ use Rattle.cxl_bus.specs.Trail.{trail_after}
 use Rattle.cxl_apply.specs.declared.write.Write.{Write}
 use Rattle.cxl_apply.specs.Jobs.{blocks_done}
 use Rattle.cxl_apply.specs.Steps.{JobState, HasWordsOf, IsSent, MakesWrite}
-use Rattle.cxl_apply.proofs.OneStep.{at_ok, write_failed, write_sent, keeps_words, makes, made_on_way}
+use Rattle.cxl_apply.proofs.OneStep.{at_ok, told_last, told_more, write_failed, write_sent, keeps_words, makes, made_on_way}
 use Rattle.cxl_apply.proofs.job.Job.step.Goals as goal
 use Rattle.cxl_apply.proofs.job.Job.step.Goals.{then-self-len, else-self-len}
 
@@ -57,3 +57,10 @@ pub returns-clause-unfailed : goal.returns-clause-unfailed
 returns-clause-unfailed g c = λ other.
     let wrote = c.write32.ensures in
     write_sent c.write32.result (g.R.Regs.state c.args.regs.now) (g.R.Regs.state c.write32.new.self) wrote.unfailed wrote.counts wrote.alone wrote.unswallowed (sym c.is_err.ensures.value ∙ c.if-is_err.false)
+
+pub returns-clause-last : goal.returns-clause-last
+returns-clause-last g c =
+    elim c.if-self-len.branch [
+      | then-self-len w ↦ told_last _ _ w.result-is (omega (arith, w.if-self-len.true, c.len.ensures))
+      | else-self-len w ↦ told_more _ _ w.result-is (λ last. omega (arith, last, w.if-self-len.false, c.len.ensures))
+    ]

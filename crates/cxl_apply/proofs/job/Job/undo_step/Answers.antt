@@ -6,7 +6,7 @@ use Rattle.cxl_bus.specs.Trail.{trail_after}
 use Rattle.cxl_apply.specs.declared.write.Write.{Write}
 use Rattle.cxl_apply.specs.Jobs.{AreTakenBack, blocks_done}
 use Rattle.cxl_apply.specs.Steps.{JobState, HasWordsOf, IsSent, TakesBack}
-use Rattle.cxl_apply.proofs.OneStep.{at_ok, write_failed, write_sent, keeps_words, takes, taken_on_way}
+use Rattle.cxl_apply.proofs.OneStep.{at_ok, told_last, told_more, write_failed, write_sent, keeps_words, takes, taken_on_way}
 use Rattle.cxl_apply.proofs.job.Job.undo_step.Goals as goal
 use Rattle.cxl_apply.proofs.job.Job.undo_step.Goals.{then-self-eq0, else-self-eq0}
 
@@ -62,3 +62,10 @@ pub returns-clause-unfailed : goal.returns-clause-unfailed
 returns-clause-unfailed g c = λ other.
     let wrote = c.write32.ensures in
     write_sent c.write32.result (g.R.Regs.state c.args.regs.now) (g.R.Regs.state c.write32.new.self) wrote.unfailed wrote.counts wrote.alone wrote.unswallowed (sym c.is_err.ensures.value ∙ c.if-is_err.false)
+
+pub returns-clause-last : goal.returns-clause-last
+returns-clause-last g c =
+    elim c.if-self-eq0.branch [
+      | then-self-eq0 w ↦ told_last _ _ w.result-is (omega (arith, w.if-self-eq0.true))
+      | else-self-eq0 w ↦ told_more _ _ w.result-is (λ last. omega (arith, last, w.if-self-eq0.false))
+    ]
