@@ -1,4 +1,4 @@
-//! The line that names the first fault of a file.
+//! The lines that tell of a file that is not read, or of its first fault.
 
 ghost use Rattle.std.specs.Prelude.{◌≡◌, ◌++◌, codes, IfOk};
 ghost use Rattle.cxl_reply.specs.Words.{line};
@@ -16,9 +16,19 @@ pub(crate) fn fault_line(
 ) -> Result<Vec<u8>, Memory>
     ensures { IfOk result (λ text. text.items ≡ line (codes "error: " ++ file.now ++ codes " " ++ numbered word.now number)) }
 {
-    let text = match number {
-        None => format!(in alloc; "error: {file} {word}\n")?,
-        Some(number) => format!(in alloc; "error: {file} {word} {number}\n")?,
-    };
+    match number {
+        None => error_line(alloc, file, word),
+        Some(number) => {
+            let text = format!(in alloc; "error: {file} {word} {number}\n")?;
+            Ok(text.into_bytes())
+        }
+    }
+}
+
+/// The line of an error in two parts.
+pub(crate) fn error_line(alloc: Global, front: &str, rest: &str) -> Result<Vec<u8>, Memory>
+    ensures { IfOk result (λ text. text.items ≡ line (codes "error: " ++ front.now ++ codes " " ++ rest.now)) }
+{
+    let text = format!(in alloc; "error: {front} {rest}\n")?;
     Ok(text.into_bytes())
 }

@@ -7,6 +7,7 @@ ghost use Rattle.cxl_inputs.specs.File.{HasNoBytes, AsksForSome, unread, too_lar
 ghost use Rattle.cxl_inputs.specs.Given.{AreTooMany};
 ghost use Rattle.cxl_inputs.specs.Stop.{IsStop};
 
+use crate::faults::error_line;
 use crate::outcome::Outcome;
 use crate::status::Status;
 use crate::stop::Stop;
@@ -50,14 +51,14 @@ pub(crate) fn within_limit(alloc: Global, file: &str, bytes: &[u8]) -> Result<()
 fn unread(alloc: Global, file: &str) -> Result<Outcome, Memory>
     ensures { IfOk result (λ outcome. outcome ≡ unread file.now) }
 {
-    let text = format!(in alloc; "error: cannot read {file}\n")?;
-    Ok(Outcome::made(Status::FetchFault, text.into_bytes()))
+    let text = error_line(alloc, "cannot read", file)?;
+    Ok(Outcome::made(Status::FetchFault, text))
 }
 
 /// The file of this name has too many bytes.
 fn too_large(alloc: Global, file: &str) -> Result<Outcome, Memory>
     ensures { IfOk result (λ outcome. outcome ≡ too_large file.now) }
 {
-    let text = format!(in alloc; "error: {file} too large\n")?;
-    Ok(Outcome::made(Status::TooLarge, text.into_bytes()))
+    let text = error_line(alloc, file, "too large")?;
+    Ok(Outcome::made(Status::TooLarge, text))
 }

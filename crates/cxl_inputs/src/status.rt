@@ -7,7 +7,7 @@ use cxl_image::ImageFault;
 use cxl_topofile::TopoFault;
 
 /// How a run of the program ended. (This project's rule.)
-#[derive(Clone, Copy, PartialEq, Eq)]
+#[derive(Clone, Copy)]
 pub enum Status {
     /// The command was carried out.
     Done,
