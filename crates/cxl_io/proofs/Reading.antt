@@ -1,11 +1,11 @@
 -- Within one answer of a reader of lines.
-use Rattle.std.proofs.Common.{◌≡◌, ℕ, zero, suc, ◌+◌, ◌-◌, ◌<◌, ◌≤◌, ◌⊎◌, Bool, true, false, cond, ◌==◌, Option, Some, None, IfSome, List, [], ◌∷◌, ◌++◌, length, take, drop, min, refl, sym, ap, subst, ◌∙◌, inl, inr, arith, append_assoc, length-append, ne_eqb}
+use Rattle.std.proofs.Common.{◌≡◌, ℕ, zero, suc, ◌+◌, ◌-◌, ◌^◌, ◌<◌, ◌≤◌, ◌⊎◌, Bool, true, false, cond, ◌==◌, Option, Some, None, IfSome, List, [], ◌∷◌, ◌++◌, length, take, drop, min, max, refl, sym, ap, subst, ◌∙◌, inl, inr, arith, append_assoc, length-append, ne_eqb, take-take}
 use Rattle.std.specs.Prelude.{nat_le, slice_index}
 use Rattle.std.specs.Str.Lines.{strip_carriage_return}
 use Rattle.std.proofs.lemmas.Bool.{leb-true, leb-false}
 use Rattle.std.proofs.lemmas.List.{append-nil, take_all, take-append-le, length-take, take_min, drop-take, drop-drop}
 use Rattle.std.proofs.Math.Seq.{take-append-add}
-use Rattle.cxl_enc.specs.Faults.{Rose}
+use Rattle.cxl_enc.specs.Faults.{Rose, LeavesCount, CountsExactly}
 use Rattle.cxl_io.specs.Lines.{ended_lines}
 use Rattle.cxl_io.specs.Reader.{Reader, line_limit, script_limit, next_bytes, TakesFrom, IsPassed, IsNext, ended, last, at_end, fails, too_much}
 use Rattle.cxl_io.specs.ReaderSteps.{kept_limit, kept_with, PassesBreak, PassesAll, Refills, line_answer, last_answer}
@@ -226,6 +226,48 @@ reading-refilled old now next before mid after count so_far none few fills =
       kept = ap (λ r. r.line) fills.after_is ∙ so_far.kept;
       going = ap (λ r. r.stop) fills.after_is ∙ so_far.going;
     }
+
+-- what is held of a block into which so many bytes are read, of which so many are within the limit
+pub held_front : (block : List ℕ) (n room end : ℕ) → end ≡ min n room → take (end - 0) (drop 0 block) ≡ take room (take n block)
+held_front block n room end is = by (le_or_more room n)
+  where
+    by : (room ≤ n) ⊎ (n < room) → take (end - 0) (drop 0 block) ≡ take room (take n block)
+    by (inl within) =
+        let e : end - 0 ≡ room = omega arith in
+        ap (λ k. take k block) e ∙ sym (take-take room n block within)
+    by (inr more) =
+        let e : end - 0 ≡ n = omega arith in
+        ap (λ k. take k block) e ∙ sym (take_all room (take n block) (omega (arith, length-take n block)))
+
+-- ---- which answer it is
+
+-- a line is no fault
+pub line_no_fault : (line : List ℕ) (answer : Taken) → answer ≡ line_answer line → answer ≡ Fault → ⊥
+line_no_fault line answer is fault = by (nat_le (length line) line_limit) is
+  where
+    by : (t : Bool) → answer ≡ cond t Line Long → ⊥
+    by true same = absurd (cc)
+    by false same = absurd (cc)
+
+-- nor is what comes at the end
+pub last_no_fault : (line : List ℕ) (answer : Taken) → answer ≡ last_answer line → answer ≡ Fault → ⊥
+last_no_fault line answer is fault = by (length line == 0) is
+  where
+    by : (t : Bool) → answer ≡ cond t End (line_answer line) → ⊥
+    by true same = absurd (cc)
+    by false same = line_no_fault line answer same fault
+
+pub too_much_no_fault : (answer : Taken) → answer ≡ TooMuch → answer ≡ Fault → ⊥
+too_much_no_fault answer is fault = absurd (cc)
+
+-- a reader that has stopped does not go on
+pub stopped_no_more : (stop : Option Taken) (answer : Taken) → stop ≡ Some answer → stop ≡ None → ⊥
+stopped_no_more stop answer some none = absurd (cc)
+
+-- the first failure behind reads that did not fail
+pub first_counted : (alone alone' : Bool) (before mid after : ℕ) → alone' ≡ alone → LeavesCount alone before mid → CountsExactly 1 alone' mid after → CountsExactly 1 alone before after
+first_counted alone alone' before mid after same left exact =
+    λ is. subst (λ n. after ≡ max n (min (n + 1) (2 ^ 64 - 1))) (left is) (exact (same ∙ is))
 
 -- ---- how it ends
 

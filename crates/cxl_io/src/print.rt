@@ -21,15 +21,20 @@ pub fn put_number(out: &mut Vec<u8>, n: u64) -> Result<(), Memory>
         return Ok(());
     }
     if n < 100 {
-        out.extend_from_slice(&two_digits(n))?;
-        return Ok(());
+        return put_digits(out, &two_digits(n));
     }
     if n < 1_000 {
-        out.extend_from_slice(&three_digits(n))?;
-        return Ok(());
+        return put_digits(out, &three_digits(n));
     }
     let mut buffer = Buffer::new();
-    out.extend_from_slice(buffer.format(n).as_bytes())?;
+    put_digits(out, buffer.format(n).as_bytes())
+}
+
+fn put_digits(out: &mut Vec<u8>, digits: &[u8]) -> Result<(), Memory>
+    ensures ok { OnOk result (out.new.items ≡ out.old.items ++ digits.now) }
+    ensures err { OnErr result (out.new.items ≡ out.old.items) }
+{
+    out.extend_from_slice(digits)?;
     Ok(())
 }
 
@@ -67,8 +72,7 @@ pub fn put_hex(out: &mut Vec<u8>, n: u64, width: u8) -> Result<(), Memory>
 {
     let mut text = [b'0'; 16];
     let start = write_hex(n, &mut text).min(16 - usize::from(width));
-    out.extend_from_slice(&text[start..])?;
-    Ok(())
+    put_digits(out, &text[start..])
 }
 
 /// Writes the hexadecimal digits at the end of the text, and answers where they start.

@@ -1,6 +1,6 @@
 //! The files of the system.
 
-ghost use Rattle.std.specs.Prelude.{◌≡◌, ◌≢◌, ◌+◌, ◌<◌, ◌≤◌, true, false, None, Err, IfOk, IfSome, length, take};
+ghost use Rattle.std.specs.Prelude.{◌≡◌, ◌≢◌, ◌+◌, ◌<◌, ◌≤◌, true, None, Err, IfOk, IfSome, length, take};
 ghost use Rattle.cxl_enc.specs.Faults.{Rose};
 ghost use Rattle.cxl_enc.specs.Counters.{next_count};
 ghost use Rattle.cxl_enc.specs.Limits.{file_limit};
@@ -53,13 +53,7 @@ impl<R: Files> Fetch for StdFetch<R> {
         ensures raised { result ≡ Err FetchFault.Failed → self.new ≡ next_count self.old }
         ensures kept { (result ≢ Err FetchFault.Failed) → self.new ≡ self.old }
     {
-        let answer = match File::open(&self.rt, name) {
-            Ok(file) => {
-                let room = room_for(&file);
-                file_within(alloc, file, room)
-            }
-            Err(e) => Err(fault_of(&e)),
-        };
+        let answer = read_file(alloc, &self.rt, name);
         if let Err(FetchFault::Failed) = &answer {
             self.faults = self.faults.saturating_add(1);
         }
@@ -76,6 +70,19 @@ pub fn whole_file<F: Read + Drop>(alloc: Global, file: F) -> Result<Vec<u8>, Fet
     file_within(alloc, file, 0)
 }
 
+/// The file of that name, as the system has it.
+fn read_file<R: Files>(alloc: Global, rt: &R, name: &str) -> Result<Vec<u8>, FetchFault>
+    ensures { IfOk result (λ file. IsFile Untold file.items) }
+{
+    match File::open(rt, name) {
+        Ok(file) => {
+            let room = room_for(&file);
+            file_within(alloc, file, room)
+        }
+        Err(e) => Err(fault_of(&e)),
+    }
+}
+
 /// As much room as a file wants by its length, and a byte more, by which its end is seen. None where that is not told.
 fn room_for<F: OpenFile>(file: &F) -> usize {
     match file.metadata() {
@@ -90,18 +97,20 @@ fn file_within<F: Read + Drop>(alloc: Global, file: F, room: usize) -> Result<Ve
     ensures too_large { result ≡ Err FetchFault.TooLarge → IsTooLarge (told_by (F.remaining file)) }
 {
     match read_to_limit(alloc, file, room) {
-        Ok(bytes) if is_too_large(&bytes) => Err(FetchFault::TooLarge),
-        Ok(bytes) => Ok(bytes),
+        Ok(bytes) => as_file(bytes),
         Err(e) => Err(fault_of(&e)),
     }
 }
 
-/// More bytes than a file may have.
-fn is_too_large(bytes: &[u8]) -> bool
-    ensures yes { result ≡ true → file_limit < length bytes.now }
-    ensures no { result ≡ false → length bytes.now ≤ file_limit }
+/// These bytes, unless they are more than a file may have.
+fn as_file(bytes: Vec<u8>) -> Result<Vec<u8>, FetchFault>
+    ensures ok { IfOk result (λ file. (file.items ≡ bytes.items) × (length bytes.items ≤ file_limit)) }
+    ensures too_large { result ≡ Err FetchFault.TooLarge → file_limit < length bytes.items }
 {
-    bytes.len() > FILE_LIMIT
+    if bytes.len() > FILE_LIMIT {
+        return Err(FetchFault::TooLarge);
+    }
+    Ok(bytes)
 }
 
 /// The bytes that a reader has left, up to one more than a file may have.

@@ -1,4 +1,4 @@
-use Rattle.std.proofs.Common.{◌-◌, ◌++◌, length, drop, ap, ◌∙◌, arith, length-drop}
+use Rattle.std.proofs.Common.{◌-◌, length, drop, ap, ◌∙◌, arith, length-drop}
 use Rattle.std.proofs.lemmas.List.{take-replicate, take_all}
 use Rattle.cxl_io.proofs.HexText.{padded_from}
 use Rattle.cxl_io.proofs.ReadBack.{number_of-padded_hex, padded_hex-one}
@@ -16,16 +16,10 @@ returns-clause-ok c =
     let zeros = c.write_hex.ensures.before ∙ take-replicate start 16 48 (omega arith) in
     let padded = padded_from text c.args.n start from c.args.width zeros c.write_hex.ensures.written (omega arith) (omega arith) in
     let whole = take_all (16 - from) (drop from text) (omega (arith, length-drop from text, length-drop start text, ap length c.write_hex.ensures.written)) in
-    c.in_ok-extend_from_slice.ensures.items ∙ ap (λ bytes. c.args.out.now.items ++ bytes) (whole ∙ padded)
+    rw (whole ∙ padded) at c.put_digits.ensures.ok
 
 pub returns-clause-plain : goal.returns-clause-plain
 returns-clause-plain c = padded_hex-one c.args.n (omega arith)
 
 pub returns-clause-read_back : goal.returns-clause-read_back
 returns-clause-read_back c = number_of-padded_hex c.args.n c.args.width (omega arith)
-
-pub returns-in_err-extend_from_slice-clause-plain : goal.returns-in_err-extend_from_slice-clause-plain
-returns-in_err-extend_from_slice-clause-plain c = padded_hex-one c.args.n (omega arith)
-
-pub returns-in_err-extend_from_slice-clause-read_back : goal.returns-in_err-extend_from_slice-clause-read_back
-returns-in_err-extend_from_slice-clause-read_back c = number_of-padded_hex c.args.n c.args.width (omega arith)

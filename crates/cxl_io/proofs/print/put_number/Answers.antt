@@ -12,20 +12,17 @@ returns-then-n-lt10-clause-read_back c = number_of-decimal c.args.n (omega arith
 pub returns-in_err-push-clause-read_back : goal.returns-in_err-push-clause-read_back
 returns-in_err-push-clause-read_back c = number_of-decimal c.args.n (omega arith)
 
-pub returns-in_err-extend_from_slice-clause-read_back : goal.returns-in_err-extend_from_slice-clause-read_back
-returns-in_err-extend_from_slice-clause-read_back c = number_of-decimal c.args.n (omega arith)
-
-pub returns-clause-read_back : goal.returns-clause-read_back
-returns-clause-read_back c = number_of-decimal c.args.n (omega arith)
+pub returns-then-n-lt100-clause-ok : goal.returns-then-n-lt100-clause-ok
+returns-then-n-lt100-clause-ok c = rw c.two_digits.ensures at c.put_digits.ensures.ok
 
 pub returns-then-n-lt100-clause-read_back : goal.returns-then-n-lt100-clause-read_back
 returns-then-n-lt100-clause-read_back c = number_of-decimal c.args.n (omega arith)
 
+pub returns-then-n-lt1000-clause-ok : goal.returns-then-n-lt1000-clause-ok
+returns-then-n-lt1000-clause-ok c = rw c.three_digits.ensures at c.put_digits-then-n-lt1000.ensures.ok
+
 pub returns-then-n-lt1000-clause-read_back : goal.returns-then-n-lt1000-clause-read_back
 returns-then-n-lt1000-clause-read_back c = number_of-decimal c.args.n (omega arith)
 
-pub returns-in_err-extend_from_slice-2-clause-read_back : goal.returns-in_err-extend_from_slice-2-clause-read_back
-returns-in_err-extend_from_slice-2-clause-read_back c = number_of-decimal c.args.n (omega arith)
-
-pub returns-in_err-extend_from_slice-3-clause-read_back : goal.returns-in_err-extend_from_slice-3-clause-read_back
-returns-in_err-extend_from_slice-3-clause-read_back c = number_of-decimal c.args.n (omega arith)
+pub returns-clause-read_back : goal.returns-clause-read_back
+returns-clause-read_back c = number_of-decimal c.args.n (omega arith)

@@ -1,13 +1,10 @@
-use Rattle.std.proofs.Common.{arith}
-use Rattle.cxl_io.proofs.WholeFiles.{over_limit, within_limit}
+use Rattle.cxl_io.proofs.WholeFiles.{over_limit, file_read}
 use Rattle.cxl_io.proofs.std_fetch.file_within.Goals as goal
 
-pub returns-in-Ok-clause-too_large : goal.returns-in-Ok-clause-too_large
-returns-in-Ok-clause-too_large g c = λ _.
-    let bytes = c.in-Ok.bytes in
-    over_limit (g.F.Read.remaining c.args.file) bytes.items c.in-Ok.ensures (let more = c.is_too_large.ensures.yes c.if-is_too_large.true in omega (arith, more, bytes.ok.0))
+pub returns-in-Ok-clause-ok : goal.returns-in-Ok-clause-ok
+returns-in-Ok-clause-ok g c =
+    file_read (g.F.Read.remaining c.args.file) c.in-Ok.bytes.items c.as_file.result c.in-Ok.ensures c.as_file.ensures.ok
 
-pub returns-in-Ok-2-clause-ok : goal.returns-in-Ok-2-clause-ok
-returns-in-Ok-2-clause-ok g c =
-    let bytes = c.in-Ok.bytes in
-    within_limit (g.F.Read.remaining c.args.file) bytes.items c.in-Ok.ensures (let few = c.is_too_large.ensures.no c.if-is_too_large.false in omega (arith, few, bytes.ok.0))
+pub returns-in-Ok-clause-too_large : goal.returns-in-Ok-clause-too_large
+returns-in-Ok-clause-too_large g c = λ over.
+    over_limit (g.F.Read.remaining c.args.file) c.in-Ok.bytes.items c.in-Ok.ensures (c.as_file.ensures.too_large over)
