@@ -7,3 +7,4 @@ pub mod LineBreaks
 pub mod Reading
 pub mod HasRead
 pub mod WholeFiles
+mod MemoryFetches

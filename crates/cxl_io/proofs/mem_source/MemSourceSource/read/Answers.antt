@@ -14,3 +14,6 @@ returns-clause-given c =
     (sym (ap (λ m. m.left) c.self.view_is) ∙ ap (drop at) (sym c.deref.ensures.value) ∙ sym (take-append-drop n left)
     ∙ ap (λ given. given ++ drop n left) (sym front)
     ∙ ap (λ rest. take n c.copy_front-n.new.into ++ rest) (drop-drop n at bytes ∙ ap (drop (at + n)) c.deref.ensures.value))
+
+pub returns-then-begin-clause-failed : goal.returns-then-begin-clause-failed
+returns-then-begin-clause-failed c = ap (λ m. Some m.left) c.self.view_is
