@@ -1,6 +1,7 @@
-use Rattle.cxl_reply.specs.Texts.{slot_text}
-use Rattle.cxl_text.proofs.Lines.{line_step}
 use Rattle.std.proofs.Common.{◌∙◌}
+use Rattle.std.specs.List.{flat_map, enumerate_from}
+use Rattle.cxl_reply.specs.Texts.{slot_text}
+use Rattle.cxl_text.proofs.Lines.{line_step, all_items}
 use Rattle.cxl_text.proofs.slots.put_slots.Goals as goal
 
 pub loop-slot-preserved : goal.loop-slot-preserved
@@ -10,3 +11,7 @@ loop-slot-preserved c = record {
   within = c.put_other_start-tail.ensures.within;
   text = c.put_slot.ensures.text ∙ c.put_other_start-tail.ensures.text;
 }
+
+pub returns : goal.returns
+returns c =
+    all_items (λ places. flat_map (slot_text c.args.topo.now.nodes) (enumerate_from 0 places)) c.args.places.now c.loop-slot.slot _ _ c.loop-slot-test.false c.loop-slot.invariant.lines
