@@ -1,7 +1,12 @@
+use Rattle.std.specs.List.{flat_map}
 use Rattle.cxl_reply.specs.Texts.{extent_text}
-use Rattle.cxl_text.proofs.Lines.{item_step}
+use Rattle.cxl_text.proofs.Lines.{item_step, all_items}
 use Rattle.cxl_text.proofs.places.put_extents.Goals as goal
 
 pub loop-extent-preserved : goal.loop-extent-preserved
 loop-extent-preserved c =
     item_step (extent_text c.args.topo.now.nodes c.items-endpoints.result.now) c.items-extent-items.result.now c.loop-extent.extent-index _ _ _ _ c.loop-extent-test.true c.loop-extent.invariant c.in_ok-put_extent.ensures
+
+pub returns : goal.returns
+returns c =
+    rw (c.items-endpoints.ensures, c.items-extent-items.ensures) at (all_items (flat_map (extent_text c.args.topo.now.nodes c.items-endpoints.result.now)) c.items-extent-items.result.now c.loop-extent.extent-index _ _ c.loop-extent-test.false c.loop-extent.invariant)
