@@ -4,6 +4,7 @@ ghost use Rattle.std.specs.Prelude.{◌≡◌, ◌++◌, ◌<◌, IsSome, OnOk, 
 ghost use Rattle.cxl_cedt.specs.RecordTexts.{record_in};
 ghost use Rattle.cxl_commands.specs.commands.LinePlaces.{line_at};
 ghost use Rattle.cxl_commands.specs.commands.Lines.{more_maps_text, maps_text, verdict_text, bridge_text, registers_text, range_text, interleave_text, arithmetic_text, restrict_text, policy_text, use_text, chbs_line, window_line, cxims_line, other_text};
+ghost use Rattle.cxl_reply.specs.Words.{hex_text};
 ghost use Rattle.cxl_window.specs.Windows.{cfmws_in};
 
 use cxl_cedt::{Chbs, Cxims, Record, RecordText};
@@ -49,61 +50,58 @@ fn put_chbs_line(out: &mut Vec<u8>, chbs: &Chbs) -> Result<(), Memory>
 {
     put_bridge(out, chbs)?;
     put_registers(out, chbs)?;
-    out.push(b'\n')?;
-    Ok(())
+    put_line_end(out)
 }
 
 #[tactic(auto, unfolding(crate::specs::commands::Lines::bridge_text))]
 fn put_bridge(out: &mut Vec<u8>, chbs: &Chbs) -> Result<(), Memory>
     ensures { OnOk result (out.new.items ≡ out.old.items ++ bridge_text chbs.now) }
 {
-    out.extend_from_slice(b"chbs ")?;
-    put_number(out, u64::from(chbs.uid))?;
-    out.extend_from_slice(b" version ")?;
-    put_number(out, u64::from(chbs.version))
+    put_count(out, b"chbs ", chbs.uid)?;
+    put_count(out, b" version ", chbs.version)
 }
 
 #[tactic(auto, unfolding(crate::specs::commands::Lines::registers_text))]
 fn put_registers(out: &mut Vec<u8>, chbs: &Chbs) -> Result<(), Memory>
     ensures { OnOk result (out.new.items ≡ out.old.items ++ registers_text chbs.now) }
 {
-    out.extend_from_slice(b" base ")?;
-    put_address(out, chbs.base)?;
-    out.extend_from_slice(b" length ")?;
-    put_address(out, chbs.length)
+    put_size(out, b" base ", chbs.base)?;
+    put_size(out, b" length ", chbs.length)
 }
 
 /// Appends the line of a window whose record has this throttling group.
 fn put_window_line(out: &mut Vec<u8>, window: &Window, qtg: u16) -> Result<(), Memory>
     ensures { OnOk result (out.new.items ≡ out.old.items ++ window_line window.now qtg) }
 {
-    put_range(out, window)?;
-    put_interleave(out, window)?;
+    put_decoding(out, window)?;
     put_policy(out, window.restrict(), qtg)?;
     put_use(out, window)?;
-    out.push(b'\n')?;
-    Ok(())
+    put_line_end(out)
+}
+
+/// Appends which addresses a window decodes, and how.
+fn put_decoding(out: &mut Vec<u8>, window: &Window) -> Result<(), Memory>
+    ensures { OnOk result (out.new.items ≡ out.old.items ++ (range_text window.now ++ interleave_text window.now)) }
+{
+    put_range(out, window)?;
+    put_interleave(out, window)
 }
 
 #[tactic(auto, unfolding(crate::specs::commands::Lines::range_text))]
 fn put_range(out: &mut Vec<u8>, window: &Window) -> Result<(), Memory>
     ensures { OnOk result (out.new.items ≡ out.old.items ++ range_text window.now) }
 {
-    out.extend_from_slice(b"window ")?;
-    put_number(out, u64::from(window.index()))?;
-    out.extend_from_slice(b" base ")?;
-    put_address(out, window.base())?;
-    out.extend_from_slice(b" size ")?;
-    put_address(out, window.size())
+    put_count(out, b"window ", window.index())?;
+    put_size(out, b" base ", window.base())?;
+    put_size(out, b" size ", window.size())
 }
 
 #[tactic(auto, unfolding(crate::specs::commands::Lines::interleave_text))]
 fn put_interleave(out: &mut Vec<u8>, window: &Window) -> Result<(), Memory>
     ensures { OnOk result (out.new.items ≡ out.old.items ++ interleave_text window.now) }
 {
-    out.extend_from_slice(b" ways ")?;
-    put_number(out, u64::from(window.ways()))?;
-    out.extend_from_slice(b" gran ")?;
+    put_count(out, b" ways ", u32::from(window.ways()))?;
+    put_text(out, b" gran ")?;
     put_gran(out, window.gran())?;
     put_arithmetic(out, window.xor())
 }
@@ -123,17 +121,16 @@ fn put_arithmetic(out: &mut Vec<u8>, xor: bool) -> Result<(), Memory>
 fn put_policy(out: &mut Vec<u8>, restrict: u16, qtg: u16) -> Result<(), Memory>
     ensures { OnOk result (out.new.items ≡ out.old.items ++ policy_text restrict qtg) }
 {
-    out.extend_from_slice(b" restrict ")?;
     put_restrict(out, restrict)?;
-    out.extend_from_slice(b" qtg ")?;
-    put_number(out, u64::from(qtg))
+    put_count(out, b" qtg ", u32::from(qtg))
 }
 
+/// Appends the restrictions of a window, behind their word.
 #[tactic(auto, unfolding(crate::specs::commands::Lines::restrict_text))]
 fn put_restrict(out: &mut Vec<u8>, restrict: u16) -> Result<(), Memory>
-    ensures { OnOk result (out.new.items ≡ out.old.items ++ restrict_text restrict) }
+    ensures { OnOk result (out.new.items ≡ out.old.items ++ (codes " restrict " ++ restrict_text restrict)) }
 {
-    out.extend_from_slice(b"0x")?;
+    put_text(out, b" restrict 0x")?;
     put_hex(out, u64::from(restrict), 4)
 }
 
@@ -141,7 +138,7 @@ fn put_restrict(out: &mut Vec<u8>, restrict: u16) -> Result<(), Memory>
 fn put_use(out: &mut Vec<u8>, window: &Window) -> Result<(), Memory>
     ensures { OnOk result (out.new.items ≡ out.old.items ++ use_text window.now) }
 {
-    out.extend_from_slice(b" targets ")?;
+    put_text(out, b" targets ")?;
     put_targets(out, window.targets())?;
     out.push(b' ')?;
     put_verdict(out, window.verdict())
@@ -155,9 +152,9 @@ fn put_verdict(out: &mut Vec<u8>, verdict: Verdict) -> Result<(), Memory>
         Verdict::Align => put_text(out, b"align"),
         Verdict::Size => put_text(out, b"size"),
         Verdict::TooHigh => put_text(out, b"too-high"),
-        Verdict::Overlap(index) => put_cause(out, b"overlap ", index),
-        Verdict::Target(uid) => put_cause(out, b"target ", uid),
-        Verdict::Repeat(uid) => put_cause(out, b"repeat ", uid),
+        Verdict::Overlap(index) => put_count(out, b"overlap ", index),
+        Verdict::Target(uid) => put_count(out, b"target ", uid),
+        Verdict::Repeat(uid) => put_count(out, b"repeat ", uid),
         Verdict::Maps => put_text(out, b"maps"),
     }
 }
@@ -170,30 +167,43 @@ fn put_text(out: &mut Vec<u8>, word: &[u8]) -> Result<(), Memory>
 }
 
 /// Appends a word and a number.
-fn put_cause(out: &mut Vec<u8>, word: &[u8], number: u32) -> Result<(), Memory>
+fn put_count(out: &mut Vec<u8>, word: &[u8], number: u32) -> Result<(), Memory>
     ensures { OnOk result (out.new.items ≡ out.old.items ++ (word.now ++ decimal number)) }
 {
     out.extend_from_slice(word)?;
     put_number(out, u64::from(number))
 }
 
+/// Appends a word and an address or a size.
+fn put_size(out: &mut Vec<u8>, word: &[u8], size: u64) -> Result<(), Memory>
+    ensures { OnOk result (out.new.items ≡ out.old.items ++ (word.now ++ hex_text size)) }
+{
+    out.extend_from_slice(word)?;
+    put_address(out, size)
+}
+
+fn put_line_end(out: &mut Vec<u8>) -> Result<(), Memory>
+    ensures { OnOk result (out.new.items ≡ out.old.items ++ codes "\n") }
+{
+    out.push(b'\n')?;
+    Ok(())
+}
+
 fn put_cxims_line(out: &mut Vec<u8>, maps: &Cxims) -> Result<(), Memory>
     ensures { OnOk result (out.new.items ≡ out.old.items ++ cxims_line maps.now) }
 {
-    out.extend_from_slice(b"cxims gran ")?;
+    put_text(out, b"cxims gran ")?;
     put_gran(out, maps.gran())?;
-    out.extend_from_slice(b" maps ")?;
+    put_text(out, b" maps ")?;
     put_maps(out, maps.maps())?;
-    out.push(b'\n')?;
-    Ok(())
+    put_line_end(out)
 }
 
 /// Appends the line of a record of this type, with these bytes behind its length.
 fn put_other_line(out: &mut Vec<u8>, kind: u8, body: &[u8]) -> Result<(), Memory>
     ensures { OnOk result (out.new.items ≡ out.old.items ++ other_text kind body.now) }
 {
-    out.extend_from_slice(b"other ")?;
-    put_number(out, u64::from(kind))?;
+    put_count(out, b"other ", u32::from(kind))?;
     put_length(out, 4 + body.len() as u64)
 }
 
@@ -203,13 +213,14 @@ fn put_length(out: &mut Vec<u8>, len: u64) -> Result<(), Memory>
 {
     if len < 10 {
         let digit = b'0' + len as u8;
-        out.extend_from_slice(&[b' ', b'l', b'e', b'n', b'g', b't', b'h', b' ', digit, b'\n'])?;
-        return Ok(());
+        return put_text(
+            out,
+            &[b' ', b'l', b'e', b'n', b'g', b't', b'h', b' ', digit, b'\n'],
+        );
     }
-    out.extend_from_slice(b" length ")?;
+    put_text(out, b" length ")?;
     put_number(out, len)?;
-    out.push(b'\n')?;
-    Ok(())
+    put_line_end(out)
 }
 
 /// Appends XOR maps, separated by commas, or `none`.
