@@ -2,9 +2,11 @@
 use Rattle.std.proofs.Common.{◌≡◌, ◌≢◌, ◌⊎◌, ℕ, zero, suc, ◌+◌, ◌*◌, ◌-◌, ◌<◌, ◌≤◌, List, [], ◌∷◌, ◌++◌, length, map, take, get_or, set, replicate, Option, None, Some, IsSome, is_some, inl, inr, refl, sym, ap, ◌∙◌, subst, arith}
 use Rattle.std.specs.Prelude.{swap, swap_remove}
 use Rattle.std.proofs.lemmas.Bool.{cases_eq, cases_lt, false≢true}
-use Rattle.std.proofs.lemmas.List.{same_lists, length-map, length-append, length-set, map-append, map-set, take-map, set-get_or, get_or-map, get_or-set_same, get_or-set_other, get_or_past, get_or_append_left}
+use Rattle.std.proofs.lemmas.List.{same_lists, length-map, length-append, length-replicate, length-set, map-append, map-set, take-map, set-get_or, get_or-map, get_or-set_same, get_or-set_other, get_or_past, get_or_append_left}
 use Rattle.std.proofs.lemmas.List.Edits.{swap_is}
 use Rattle.std.proofs.Math.ListN as seq
+use Rattle.cxl_enc.specs.Limits.{frame_limit}
+use Rattle.cxl_enc.proofs.Lists.{zeros_at}
 use Rattle.cxl_media.specs.declared.cell.Cell.{Cell}
 use Rattle.cxl_media.specs.declared.cell_list.KeptBlock.{KeptBlock}
 use Rattle.cxl_media.specs.Table.{Cells, cell_at}
@@ -41,6 +43,19 @@ cells_new kept (suc n) = ap (λ cells. None ∷ cells) (cells_new kept n)
 
 pub new_cells : (numbers : List ℕ) (kept : Cells) (n : ℕ) → numbers ≡ replicate n 0 → cells_of numbers kept ≡ replicate n None
 new_cells numbers kept n is = ap (λ ns. cells_of ns kept) is ∙ cells_new kept n
+
+-- without a block
+pub placed_none : (numbers : List ℕ) (places : List KeptBlock) (n room : ℕ) → numbers ≡ replicate n 0 → places ≡ [] → n ≤ 3 * room → n ≤ 3 * frame_limit → ArePlaced numbers places room
+placed_none numbers places n room are none fits small =
+    rw (are, none) (record {
+      own = λ i m is.
+          let both : 0 ≡ suc m = sym (zeros_at n i) ∙ is in
+          absurd (omega arith);
+      named = λ m p is. absurd (not_none p (sym is));
+      fits = omega (arith, length-replicate {A = ℕ} n 0, fits);
+      small = omega (arith, length-replicate {A = ℕ} n 0, small);
+      few = omega arith;
+    })
 
 pub number_within : (numbers : List ℕ) (i n : ℕ) → get_or numbers i 0 ≡ suc n → i < length numbers
 number_within numbers i n is =

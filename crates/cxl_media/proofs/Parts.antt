@@ -1,10 +1,11 @@
 -- Numbers in parts: what stands at a place, and what making a part and putting a number leave.
-use Rattle.std.proofs.Common.{◌≡◌, ◌≢◌, ◌⊎◌, ℕ, zero, suc, ◌+◌, ◌/◌, ◌%◌, ◌<◌, ◌≤◌, Bool, true, false, cond, List, [], ◌∷◌, ◌++◌, length, get_or, set, replicate, count_by, inl, inr, refl, sym, ap, ◌∙◌, arith}
+use Rattle.std.proofs.Common.{◌≡◌, ◌≢◌, ◌⊎◌, ℕ, zero, suc, ◌+◌, ◌*◌, ◌/◌, ◌%◌, ◌<◌, ◌≤◌, Bool, true, false, cond, List, [], ◌∷◌, ◌++◌, length, get_or, set, replicate, count_by, inl, inr, refl, sym, ap, ◌∙◌, arith}
 use Rattle.std.proofs.Math.Seq.{get_or-append_seam}
 use Rattle.std.proofs.lemmas.Bool.{cases_eq}
 use Rattle.std.proofs.lemmas.List.{same_lists, length-set, length-append, get_or-set_same, get_or-set_other, get_or_append_left, get_or-replicate, length-replicate}
 use Rattle.std.proofs.lemmas.List.FromFn.{length-map-range_with_len, get_or-map-range_with_len}
 use Rattle.std.proofs.lemmas.List.Sums.{sum_by-cons, sum_by-set, count_by-le-length}
+use Rattle.cxl_enc.specs.Limits.{frame_limit}
 use Rattle.cxl_enc.proofs.Lists.{zeros_at}
 use Rattle.cxl_media.specs.Numbers.{no_numbers, part_named, number_at, numbers_of, is_made, AreParts}
 
@@ -35,6 +36,27 @@ numbers_new parts made count total none =
     number_here parts made total k d inside
     ∙ not_made parts made k (ap (λ ps. get_or ps (k / 256) 0) none ∙ zeros_at count (k / 256))
     ∙ sym (get_or-replicate total k 0 d inside))
+
+none_counted : (n : ℕ) → count_by is_made (replicate n 0) ≡ 0
+none_counted zero = refl
+none_counted (suc n) = omega (arith, sum_by-cons (λ (k : ℕ). cond (is_made k) 1 0) 0 (replicate n 0), none_counted n)
+
+pub parts_none : (parts : List ℕ) (made : List (List ℕ)) (count total room : ℕ) → parts ≡ replicate count 0 → made ≡ []
+    → total ≤ 256 * count → count ≤ room → total ≤ 3 * frame_limit → count ≤ 3 * frame_limit → AreParts parts made total room
+parts_none parts made count total room are none cover fits few small =
+    rw (are, none) (record {
+      named = λ i n is.
+          let both : 0 ≡ suc n = sym (zeros_at count i) ∙ is in
+          absurd (omega arith);
+      once = λ i j n is _.
+          let both : 0 ≡ suc n = sym (zeros_at count i) ∙ is in
+          absurd (omega arith);
+      counted = none_counted count;
+      cover = omega (arith, length-replicate {A = ℕ} count 0, cover);
+      fits = omega (arith, length-replicate {A = ℕ} count 0, fits);
+      few = few;
+      small = omega (arith, length-replicate {A = ℕ} count 0, small);
+    })
 
 one_at_most : (b : Bool) → cond b 1 0 ≤ 1
 one_at_most true = omega arith

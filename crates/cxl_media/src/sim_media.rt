@@ -1,8 +1,9 @@
 //! The shipped media: blocks in the frames of a pool.
 
-ghost use Rattle.std.specs.Prelude.{◌≡◌, ◌+◌, ◌%◌, ◌↔◌, IsSome, IsTrue, Some, IfSome, length};
+ghost use Rattle.std.specs.Prelude.{◌≡◌, ◌+◌, ◌%◌, ◌≤◌, ◌↔◌, IsSome, IsTrue, Some, IfOk, IfSome, length};
 ghost use Rattle.std.specs.Option.{option_copied};
 ghost use Rattle.std.specs.FinMap as map;
+ghost use Rattle.cxl_enc.specs.Limits.{frame_limit};
 ghost use Rattle.cxl_pool.specs.Pool.{frame_bytes, free_count};
 ghost use Rattle.cxl_media.specs.Blocks.{Key, key_of};
 
@@ -50,6 +51,18 @@ impl SimMedia {
             pool: Pool::empty(alloc),
             index: Index::empty(alloc),
         }
+    }
+
+    // Media without a block, with so many free frames.
+    fn with_frames(alloc: Global, frames: u32) -> Result<SimMedia, Memory>
+        requires some { 1 ≤ frames }
+        requires few { frames ≤ frame_limit }
+        ensures blocks { IfOk result (λ media. shipped_blocks media ≡ map.empty) }
+        ensures free { IfOk result (λ media. free_count media.pool ≡ frames) }
+    {
+        let pool = Pool::new(alloc, frames)?;
+        let index = Index::new(alloc, frames)?;
+        Ok(SimMedia { pool, index })
     }
 
     // Seeks each block between two device addresses of an endpoint, and takes out those that there are.
@@ -111,10 +124,8 @@ impl Media for SimMedia {
     ghost state = { shipped_state };
 
     fn power_on(&mut self, alloc: Global, frames: u32) -> Result<(), Memory> {
-        let pool = Pool::new(alloc, frames)?;
-        let index = Index::new(alloc, frames)?;
-        self.pool = pool;
-        self.index = index;
+        let media = SimMedia::with_frames(alloc, frames)?;
+        *self = media;
         Ok(())
     }
 

@@ -1,5 +1,6 @@
 use Rattle.std.proofs.Common.{◌≡◌, ℕ, suc, ◌-◌, ◌<◌, List, None, Some, IsSome, length, get_or, set, sym, ap, ◌∙◌, subst, arith}
 use Rattle.std.specs.Prelude.{swap}
+use Rattle.std.proofs.lemmas.List.{length-set}
 use Rattle.cxl_media.specs.declared.cell_list.KeptBlock.{KeptBlock}
 use Rattle.cxl_media.specs.Table.{cell_at}
 use Rattle.cxl_media.specs.CellList.{Listed, kept_of, cells_of, place_at, ArePlaced}
@@ -8,7 +9,7 @@ use Rattle.cxl_media.proofs.cell_list.CellList.bring.Goals as goal
 
 -- in the words of the code: l is what contracts see
 module _ (numbers : List ℕ) (places : List KeptBlock) (room : ℕ) (l : Listed) (view : ◌≡◌ {A = Listed} (record { cells = cells_of numbers (kept_of places); kept = kept_of places }) l) (are : ArePlaced numbers places room) (empty from number : ℕ) (within : empty < length l.cells) (none : cell_at l.cells empty ≡ None) (taken : IsSome (cell_at l.cells from)) (read : number ≡ get_or numbers from 0) where
-  above : number ≡ suc (number - 1)
+  pub above : number ≡ suc (number - 1)
   above =
       let some = taken_number numbers places room are from (subst (λ (m : Listed). IsSome (cell_at m.cells from)) (sym view) taken) in
       omega (arith, some, read)
@@ -19,7 +20,10 @@ module _ (numbers : List ℕ) (places : List KeptBlock) (room : ℕ) (l : Listed
   pub bring_filled : number - 1 < length places
   bring_filled = filled numbers places room are from (number - 1) its
 
-  inside : empty < length numbers
+  pub from_within : from < length numbers
+  from_within = number_within numbers from (number - 1) its
+
+  pub inside : empty < length numbers
   inside = omega (arith, within, ap (λ (m : Listed). length m.cells) view, length_of numbers (kept_of places))
 
   nothing : get_or numbers empty 0 ≡ 0
@@ -42,6 +46,15 @@ module _ (numbers : List ℕ) (places : List KeptBlock) (room : ℕ) (l : Listed
 
     pub kept : kept_of (set places (number - 1) (record p { at = empty })) ≡ l.kept
     kept = brought_kept numbers places room are empty from (number - 1) p inside nothing its there (number_within numbers from (number - 1) its) ∙ ap (λ (m : Listed). m.kept) view
+
+pub overflow_sub-number : goal.overflow_sub-number
+overflow_sub-number c = omega (arith, above _ _ _ _ c.self.view_is c.self.invariant c.args.empty c.args.from c.get-number.result c.requires.within c.requires.empty c.requires.taken c.get-number.ensures)
+
+pub set-requires : goal.set-requires
+set-requires c = inside _ _ _ _ c.self.view_is c.self.invariant c.args.empty c.args.from c.get-number.result c.requires.within c.requires.empty c.requires.taken c.get-number.ensures
+
+pub set-requires-2 : goal.set-requires-2
+set-requires-2 c = omega (arith, from_within _ _ _ _ c.self.view_is c.self.invariant c.args.empty c.args.from c.get-number.result c.requires.within c.requires.empty c.requires.taken c.get-number.ensures, length-set c.self.inside.numbers c.args.empty c.get-number.result, ap length c.set.ensures)
 
 pub index_mut-requires : goal.index_mut-requires
 index_mut-requires c =

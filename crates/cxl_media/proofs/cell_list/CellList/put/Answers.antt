@@ -31,6 +31,14 @@ module _ (numbers : List ℕ) (places : List KeptBlock) (room : ℕ) (l : Listed
       ∙ put_cells numbers places room are at new_place inside none refl room_left
       ∙ ap (λ (m : Listed). set m.cells at (Some cell)) view
 
+pub push_reserved-requires : goal.push_reserved-requires
+push_reserved-requires c =
+    omega (arith, c.self.inside.kept.ok.0, c.self.invariant.fits, ap (λ (m : Listed). length m.cells) c.self.view_is, ap (λ (m : Listed). length m.kept) c.self.view_is, length_of c.self.inside.numbers (kept_of c.self.inside.kept.items), length_kept c.self.inside.kept.items, c.requires.room)
+
+pub set-requires : goal.set-requires
+set-requires c =
+    omega (arith, c.requires.within, ap (λ (m : Listed). length m.cells) c.self.view_is, length_of c.self.inside.numbers (kept_of c.self.inside.kept.items))
+
 pub invariant_of-self : goal.invariant_of-self
 invariant_of-self c =
     let its : c.len-number.result ≡ suc (length c.self.inside.kept.items) = omega (arith, c.len-number.ensures, c.push_reserved.ensures.len, c.self.inside.kept.ok.0) in
