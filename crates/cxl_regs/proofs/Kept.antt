@@ -83,6 +83,10 @@ put_sound block i d effect is decoder = record {
   };
 }
 
+-- other registers of a decoder, which is what `put` leaves
+pub decoder_block : (block : Registers) (i : ℕ) (d : Decoder) (new : List Decoder) → IsBlock block → IsDecoder block.endpoint d → new ≡ slice_set block.decoders i d → IsBlock (record block { decoders = new })
+decoder_block block i d new is decoder written = rw written (put_sound block i d Written is decoder).block
+
 -- a word of the decoder at a place, which is what `put_word` leaves
 pub word_block : (block : Registers) (i place v : ℕ) (new : List Decoder) → IsBlock block → v < 2 ^ 32 → i < length block.decoders
     → ((d : Decoder) → slice_get block.decoders i ≡ Some d → new ≡ slice_set block.decoders i (with_word block.endpoint d place v)) → IsBlock (record block { decoders = new })

@@ -5,3 +5,4 @@ pub mod Kept
 pub mod TargetLists
 pub mod Places
 pub mod WordPlaces
+mod Landing

@@ -1,7 +1,8 @@
 //! An HDM decoder block, as the words that are read and written of it.
 
-ghost use Rattle.std.specs.Prelude.{◌≡◌, ◌<◌, ◌≤◌, ◌+◌, ◌-◌, ◌/◌, ◌%◌, ◌↔◌, true, IsTrue, IsSome, Some, length, drop, IfOk, IfSome, slice_get};
-ghost use Rattle.cxl_enc.specs.Caps.{is_legal_cap};
+ghost use Rattle.std.specs.Prelude.{◌≡◌, ◌<◌, ◌≤◌, ◌+◌, ◌-◌, ◌/◌, ◌%◌, ◌↔◌, ◌||◌, true, IsTrue, IsSome, Some, drop, length, IfOk, IfSome, slice_get};
+ghost use Rattle.cxl_enc.specs.Bits.{control_commit};
+ghost use Rattle.cxl_enc.specs.Caps.{is_legal_cap, has_bit};
 ghost use Rattle.cxl_regs.specs.declared.decoder.Decoder.{Decoder};
 ghost use Rattle.cxl_regs.specs.Registers.{Registers, IsBlock, IsDecoder, IsSameShape, reset_block};
 ghost use Rattle.cxl_regs.specs.Words.{control, head_words, word_at, HasWord};
@@ -275,10 +276,7 @@ impl Block {
         ensures left { self.new ≡ (after_release self.old index d value).block }
         ensures told { result ≡ (after_release self.old index d value).effect }
     {
-        if d.lock
-            || has_bit(value, CONTROL_COMMIT)
-            || any_committed(&self.decoders.as_slice()[index + 1..])
-        {
+        if self.stays(index, &d, value) {
             return Effect::Dropped;
         }
         let released = Decoder {
@@ -288,6 +286,16 @@ impl Block {
         };
         self.put(index, released);
         Effect::Released
+    }
+
+    /// Whether a committed decoder stays so: it is locked, the write commits it again, or a later one is committed.
+    fn stays(&self, index: usize, d: &Decoder, value: u32) -> bool
+        requires { index < length self.now.decoders }
+        ensures { result ≡ (d.now.lock || has_bit value control_commit || any_committed (drop (index + 1) self.now.decoders)) }
+    {
+        d.lock
+            || has_bit(value, CONTROL_COMMIT)
+            || any_committed(&self.decoders.as_slice()[index + 1..])
     }
 
     /// A write to the control of a decoder that is not committed.
