@@ -1,36 +1,16 @@
 -- A position is below the number of ways.
-use Rattle.std.proofs.Common.{◌≡◌, ℕ, ◌+◌, ◌*◌, ◌/◌, ◌%◌, ◌^◌, ◌<◌, Bool, true, false, cond, eqb, Option, Some, None, refl, sym, subst, arith}
-use Rattle.std.specs.Prelude.{IsTrue, is_some, ◌&&◌, if◌then◌else◌}
+use Rattle.std.proofs.Common.{◌≡◌, ℕ, ◌+◌, ◌*◌, ◌/◌, ◌%◌, ◌^◌, ◌<◌, Bool, true, false, Some, None, subst, arith}
+use Rattle.std.specs.Prelude.{◌&&◌, if◌then◌else◌}
 use Rattle.std.proofs.Math.Nat.{mod-lt}
 use Rattle.std.proofs.Math.Pow.{pow_pos}
-use Rattle.std.proofs.lemmas.Bool.{false≢true, eqb-true, cond_both}
+use Rattle.std.proofs.lemmas.Bool.{cond_both}
 use Rattle.std.proofs.lemmas.Nat.{mul-add-lt}
-use Rattle.cxl_enc.specs.Codes.{is_ways, third_of, bits_of}
+use Rattle.cxl_enc.specs.Codes.{third_of, bits_of}
+use Rattle.cxl_enc.proofs.Tables.{factored}
 use Rattle.cxl_enc.proofs.Ways.{some_third}
 use Rattle.cxl_num.specs.Laws.{ParitiesTellRawBits}
 use Rattle.cxl_window.specs.Fields.{WindowFields, IsWindow}
 use Rattle.cxl_window.specs.Position.{parities_of, chunk_of, low_of, position_of, position_at, is_usable, holds}
-
--- the factors of a number of ways
-IsFactored : ℕ → Type 0
-IsFactored n = n ≡ third_of n * 2 ^ bits_of n
-
-module _ (n : ℕ) where
-  -- the number is m, or has one of the other codes
-  one_of : (m code : ℕ) (others : Option ℕ) → IsFactored m → (IsTrue (is_some others) → IsFactored n)
-      → IsTrue (is_some (cond (eqb n m) (Some code) others)) → IsFactored n
-  one_of m code others first rest =
-      elim (eqb n m) as (λ b. eqb n m ≡ b → IsTrue (is_some (cond b (Some code) others)) → IsFactored n) [
-        | true ↦ λ same known. subst IsFactored (sym (eqb-true n m same)) first
-        | false ↦ λ other known. rest known
-      ] refl
-
-  factored : IsTrue (is_ways n) → IsFactored n
-  unfolding IsFactored
-  factored =
-      one_of 1 0 _ refl (one_of 2 1 _ refl (one_of 4 2 _ refl (one_of 8 3 _ refl
-      (one_of 16 4 _ refl (one_of 3 8 _ refl (one_of 6 9 _ refl (one_of 12 10 _ refl
-      (λ known. absurd (false≢true known)))))))))
 
 -- a low part and a third
 two_parts : (low third power thirds ways : ℕ) → low < power → third < thirds → ways ≡ thirds * power → low + power * third < ways
@@ -48,10 +28,9 @@ module _ (told : ParitiesTellRawBits) where
       (λ xor. told.below (bits_of w.ways) h w.maps) (λ plain. mod-lt (chunk_of w h) (pow_pos (bits_of w.ways)))
 
   pub position_of-lt : (w : WindowFields) (h : ℕ) → IsWindow w → position_of w h < w.ways
-  unfolding IsFactored
   position_of-lt w h window =
       two_parts (low_of w h) (chunk_of w h / 2 ^ bits_of w.ways % third_of w.ways) (2 ^ bits_of w.ways) (third_of w.ways) w.ways
-      (low_of-lt w h) (mod-lt (chunk_of w h / 2 ^ bits_of w.ways) (some_third w.ways)) (factored w.ways window.ways_known)
+      (low_of-lt w h) (mod-lt (chunk_of w h / 2 ^ bits_of w.ways) (some_third w.ways)) (factored w.ways window.ways_known).product
 
   pub position_at-lt : (w : WindowFields) (h position : ℕ) → IsWindow w → position_at w h ≡ Some position → position < w.ways
   position_at-lt w h position window there =

@@ -1,6 +1,6 @@
-use Rattle.std.proofs.Common.{◌≡◌, List, [], length, take, Some, sym, ap, subst, ◌∙◌}
+use Rattle.std.proofs.Common.{◌≡◌, List, [], length, take, Some, refl, sym, ap, subst, ◌∙◌}
 use Rattle.std.specs.Prelude.{All}
-use Rattle.std.proofs.lemmas.List.Elements.{All-push}
+use Rattle.std.proofs.lemmas.List.Elements.{All-nil, All-push}
 use Rattle.std.specs.Option.{option_copied}
 use Rattle.cxl_window.specs.Fields.{WindowFields, IsWindow}
 use Rattle.cxl_window.specs.Judging.{tables_behind, windows_behind}
@@ -9,6 +9,9 @@ use Rattle.cxl_window.proofs.BridgeLists.{no_bridge_missing}
 use Rattle.cxl_window.proofs.WindowLists.{windows_from-next, length-windows_from, window_of-judged, few_taken, behind_more, windows_at_end, length-windows_of}
 use Rattle.cxl_window.proofs.MadeWith.{windows_made}
 use Rattle.cxl_window.proofs.verdicts.windows_by.Goals as goal
+
+pub loop-cfmws-init : goal.loop-cfmws-init
+loop-cfmws-init c = rw c.new-windows.ensures.items (record { are = refl; windows = All-nil IsWindow })
 
 pub window-requires : goal.window-requires
 window-requires c =
@@ -42,6 +45,11 @@ loop-cfmws-preserved c =
       are = windows_from-next records uids front _ cfmws ws w c.loop-cfmws.invariant.are window_is more;
       windows = All-push IsWindow ws w c.loop-cfmws.invariant.windows c.in_ok-window.ensures.window;
     })
+
+pub returns-clause-windows : goal.returns-clause-windows
+returns-clause-windows c =
+    let are = ap windows_behind c.deref-cfmws-items.ensures.value ∙ c.in_ok-judge.ensures.windows in
+    windows_at_end c.args.records.now (option_copied c.args.uids) c.deref-cfmws-items.result.now c.loop-cfmws.cfmws-index c.loop-cfmws.windows.items are c.loop-cfmws-test.false c.loop-cfmws.invariant.are
 
 pub returns-clause-one_each : goal.returns-clause-one_each
 returns-clause-one_each c =

@@ -2,10 +2,13 @@ use Rattle.std.proofs.Common.{List, [], ◌++◌, ℕ, sym, ap, ◌∙◌}
 use Rattle.std.specs.List.{cons_option}
 use Rattle.std.specs.Option.{option_copied}
 use Rattle.cxl_table.specs.Fields.{CfmwsFields, CximsFields}
-use Rattle.cxl_window.specs.Judging.{bridges_in}
+use Rattle.cxl_window.specs.Judging.{bridges_in, tables_behind, windows_behind}
 use Rattle.cxl_window.specs.Windows.{cfmws_in, cxims_in}
 use Rattle.cxl_window.proofs.FilterMaps.{filter_map_more, flat_map_one_more}
 use Rattle.cxl_window.proofs.judge.Judge.new.Goals as goal
+
+pub loop-record-init : goal.loop-record-init
+loop-record-init c = record { bridges = c.new.ensures.items; tables = ap tables_behind c.new-2.ensures.items; windows = ap windows_behind c.new-3.ensures.items }
 
 pub loop-record-preserved : goal.loop-record-preserved
 loop-record-preserved c =
