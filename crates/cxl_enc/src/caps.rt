@@ -1,6 +1,6 @@
 //! The two kinds of memory, and what a capability word states of a decoder block.
 
-ghost use Rattle.std.specs.Prelude.{◌≡◌, ◌*◌, ◌<◌, IsTrue};
+ghost use Rattle.std.specs.Prelude.{◌≡◌, ◌+◌, ◌*◌, ◌<◌, IsTrue};
 ghost use Rattle.cxl_enc.specs.Caps.{targets_of, has_bit, is_legal_cap, has_named_bits, has_own_bits, are_caps, bit_of, word_of};
 
 use crate::bits::{CAP_HIGH, CAP_LOW, CAP_WAYS3, CAP_WAYS16};
@@ -13,7 +13,7 @@ pub enum MemKind {
 }
 
 /// What a decoder block can do, as its capability word states it.
-#[derive(Clone, Copy, PartialEq, Eq)]
+#[derive(Clone, Copy)]
 pub struct Caps {
     /// How many decoders: 1, 2, 4, 6, 8 or 10.
     pub decoders: u8,
@@ -77,9 +77,16 @@ pub fn cap_word(caps: &Caps) -> u32
     // 1, 2, 4, 6, 8 and 10 decoders have the codes 0 to 5.
     let count = u32::from(caps.decoders / 2);
     let targets = 16 * u32::from(caps.targets);
-    count
-        + targets
-        + bit(caps.low, 1 << CAP_LOW)
+    count + targets + flags(caps)
+}
+
+/// The bits of a capability word that each stand for something by itself.
+fn flags(caps: &Caps) -> u32
+    ensures value { result ≡ 256 * bit_of caps.now.low + 512 * bit_of caps.now.high
+        + 2048 * bit_of caps.now.ways3 + 4096 * bit_of caps.now.ways16 }
+    ensures few { result < 8192 }
+{
+    bit(caps.low, 1 << CAP_LOW)
         + bit(caps.high, 1 << CAP_HIGH)
         + bit(caps.ways3, 1 << CAP_WAYS3)
         + bit(caps.ways16, 1 << CAP_WAYS16)
