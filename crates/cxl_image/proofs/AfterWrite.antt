@@ -4,7 +4,8 @@ use Rattle.std.proofs.lemmas.Bool.{cases_lt}
 use Rattle.std.proofs.lemmas.List.{length-set}
 use Rattle.std.proofs.lemmas.List.Elements.{All-set}
 use Rattle.std.proofs.lemmas.Option.{same_Some, slice_get_within, slice_get_cases, get_or_from_slice_get}
-use Rattle.std.specs.Prelude.{slice_get, slice_set, IsSomeAnd}
+use Rattle.std.specs.Prelude.{slice_get, slice_set, Option, IsSomeAnd}
+use Rattle.std.specs.Option.{option_map_or}
 use Rattle.cxl_enc.proofs.Lists.{get_same, get_other}
 use Rattle.cxl_regs.specs.declared.effect.Effect.{Effect}
 use Rattle.cxl_regs.specs.Registers.{Registers, IsBlock, IsSameShape}
@@ -58,14 +59,18 @@ block_there blocks node old is here = subst IsBlock (get_or_from_slice_get block
 
 -- ---- as laws
 
+-- the blocks after a write to the one that was found
+abbrev written : List Registers → ℕ → ℕ → ℕ → Option Registers → List Registers
+written blocks node off v found = option_map_or (λ block. slice_set blocks node (after_word block off v).block) found blocks
+
 pub law_caps : ((block : Registers) (off v : ℕ) → IsSameShape block (after_word block off v).block) → (blocks : List Registers) (nodes : List Node) (node off v : ℕ) → HasCapsOf blocks nodes → HasCapsOf (blocks_after blocks node off v) nodes
 law_caps shape blocks nodes node off v caps = elim (slice_get_cases blocks node).1 [
-  | inl here ↦ rw here.2 (after_caps blocks nodes node here.0 (after_word here.0 off v).block here.2 (shape here.0 off v) caps)
-  | inr past ↦ rw past.1 caps
+  | inl here ↦ subst (λ found. HasCapsOf (written blocks node off v found) nodes) (sym here.2) (after_caps blocks nodes node here.0 (after_word here.0 off v).block here.2 (shape here.0 off v) caps)
+  | inr past ↦ subst (λ found. HasCapsOf (written blocks node off v found) nodes) (sym past.1) caps
 ]
 
 pub law_image : ((block : Registers) (off v : ℕ) → IsBlock block → v < 2 ^ 32 → IsBlock (after_word block off v).block) → (blocks : List Registers) (node off v : ℕ) → IsImage blocks → v < 2 ^ 32 → IsImage (blocks_after blocks node off v)
 law_image sound blocks node off v is lt = elim (slice_get_cases blocks node).1 [
-  | inl here ↦ rw here.2 (after_image blocks node (after_word here.0 off v).block is (sound here.0 off v (block_there blocks node here.0 is here.2) lt))
-  | inr past ↦ rw past.1 is
+  | inl here ↦ subst (λ found. IsImage (written blocks node off v found)) (sym here.2) (after_image blocks node (after_word here.0 off v).block is (sound here.0 off v (block_there blocks node here.0 is here.2) lt))
+  | inr past ↦ subst (λ found. IsImage (written blocks node off v found)) (sym past.1) is
 ]

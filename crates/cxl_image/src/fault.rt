@@ -30,7 +30,7 @@ pub enum ImageFault {
 // The debug text of a fault is its message, since an error needs one and nothing else asks for it.
 impl fmt::Debug for ImageFault {
     fn fmt<W: fmt::Write>(&self, f: &mut fmt::Formatter<W>) -> fmt::Result {
-        write!(f, "{self}")
+        fmt::Display::fmt(self, f)
     }
 }
 
