@@ -17,6 +17,7 @@ pub mod Stores
 pub mod Sites
 pub mod LiveRegions
 pub mod Opened
+pub mod Passing
 pub mod Zips
 pub mod Rearranged
 pub mod PendingJobs

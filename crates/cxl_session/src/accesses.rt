@@ -20,6 +20,7 @@ ghost use Rattle.cxl_session.specs.inner.Answering.{StandsSomehow, IsReadFor};
 ghost use Rattle.cxl_session.specs.inner.Places.{HasNoneOf};
 
 use crate::endpoints::endpoints_by_slot;
+use crate::placing::put_reply;
 use crate::session::Session;
 use cxl_bytes::{carried_address, first_part, load_bytes, read_part};
 use cxl_deal::{Weave, deal};
@@ -70,7 +71,7 @@ impl Session {
         let place = match self.place_within(load.h, u64::from(load.len)) {
             Ok(place) => place,
             Err(refusal) => {
-                *reply = refusal;
+                put_reply(reply, refusal);
                 return Ok(());
             }
         };
@@ -84,7 +85,7 @@ impl Session {
         requires { (m : Machine) × StandsFor self.now m × IsMachine m }
         ensures { (m : Machine) → StandsFor self.now m → IsMachine m → down_answer m h ≡ stays m reply.new }
     {
-        *reply = self.down(h);
+        put_reply(reply, self.down(h));
     }
 
     /// The device bytes on which a range of host bytes lies. Takes memory.
@@ -123,8 +124,8 @@ impl Session {
             Err(refusal) => return Ok(refusal),
         };
         let found = self.found_at(place);
-        let bytes = spread(found, self.window_at(found.window), reach.h, reach.len);
         let endpoints = endpoints_by_slot(alloc, found)?;
+        let bytes = spread(found, self.window_at(found.window), reach.h, reach.len);
         Ok(Reply::Spread(Spread { bytes, endpoints }))
     }
 
@@ -145,7 +146,7 @@ impl Session {
         requires { (m : Machine) × StandsFor self.now m × IsMachine m }
         ensures { (m : Machine) → StandsFor self.now m → IsMachine m → AnswersUp m up (stays m reply.new) }
     {
-        *reply = self.up(up);
+        put_reply(reply, self.up(up));
     }
 
     /// What a byte of an endpoint's device is answered, by the live regions that its decoders serve.
@@ -227,7 +228,7 @@ fn put_loaded<M: Media>(
         }
     }
     let bytes = load_bytes(alloc, media, found, weave, load)?;
-    *reply = Reply::Loaded(bytes);
+    put_reply(reply, Reply::Loaded(bytes));
     Ok(())
 }
 

@@ -10,6 +10,7 @@ ghost use Rattle.cxl_machine.specs.Scripts.{Turn, TakesTurn};
 ghost use Rattle.cxl_session.specs.Standing.{Stands, ForEachMachine, HasTaken};
 ghost use Rattle.cxl_session.specs.inner.Answering.{is_access};
 
+use crate::placing::put_reply;
 use crate::session::Session;
 use cxl_bus::Regs;
 use cxl_enc::Memory;
@@ -52,8 +53,8 @@ impl Session {
         ensures counts { (R.state regs.old).faults ≤ (R.state regs.new).faults }
     {
         let mut reply = Reply::NothingPending;
-        self.act_into(alloc, command, &mut reply, regs, media)?;
-        Ok(reply)
+        self.act_into(alloc, command, &mut reply, regs, media)
+            .and(Ok(reply))
     }
 
     /// The same, with the reply in the place of one to an earlier command, so that a load of as many bytes can have its list. What
@@ -92,7 +93,7 @@ impl Session {
         match command {
             Command::Load(load) => self.load(alloc, *load, media, reply),
             Command::Store(store) => {
-                *reply = self.store(store, media);
+                put_reply(reply, self.store(store, media));
                 Ok(())
             }
             Command::Down(h) => {
@@ -133,7 +134,7 @@ impl Session {
         ensures host { (self.new.topo ≡ self.old.topo) × (self.new.windows ≡ self.old.windows) }
         ensures counts { (R.state regs.old).faults ≤ (R.state regs.new).faults }
     {
-        *reply = self.act_on_regions(alloc, command, regs, media)?;
+        put_reply(reply, self.act_on_regions(alloc, command, regs, media)?);
         Ok(())
     }
 

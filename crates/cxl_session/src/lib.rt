@@ -10,6 +10,7 @@ mod located;
 mod on_device;
 mod opening;
 mod pending;
+mod placing;
 mod regions;
 mod reports;
 mod requests;

@@ -191,9 +191,9 @@ impl Session {
         let Ok(session) = Session::over(alloc, topo, windows, start, founds, &endpoints) else {
             return Err(OpenFault::Memory);
         };
-        if enable_endpoints(&endpoints, regs).is_err() {
+        let Ok(session) = enable_endpoints(&endpoints, regs).and(Ok(session)) else {
             return Err(OpenFault::Bus);
-        }
+        };
         Ok(session)
     }
 

@@ -1,10 +1,13 @@
-use Rattle.std.proofs.Common.{refl, sym, subst}
+use Rattle.std.proofs.Common.{◌≡◌, true, refl, sym, subst}
 use Rattle.std.proofs.lemmas.Result.{on_ok_weaker}
 use Rattle.std.proofs.Math.Nat.{le_refl}
 use Rattle.cxl_bus.proofs.Failed.{fails_nowhere}
 use Rattle.cxl_script.specs.Grammar.{IsRanged}
 use Rattle.cxl_script.specs.declared.command.Command.TheVariants as commands
+use Rattle.cxl_reply.specs.declared.reply.Reply.{Reply}
 use Rattle.cxl_machine.specs.Accesses.{store_answer}
+use Rattle.cxl_machine.specs.Replies.{is_refusal}
+use Rattle.cxl_session.specs.inner.Answering.{IsWrittenFor}
 use Rattle.cxl_session.proofs.Acts.{of_command, read_turn, write_turn, image_held, some_machine, somehow, holds_some, untouched_by, owes_none, on_ok_always, err_always}
 use Rattle.cxl_session.proofs.session.Session.act_into.Goals as goal
 
@@ -40,12 +43,14 @@ returns-in-Store g c =
     let old = g.R.Regs.state c.args.regs.now in
     let media = g.M.Media.state c.args.media.now in
     let left = g.M.Media.state c.store.new.media in
+    let reply = c.put_reply.new.place in
     record {
       answer =
-          of_command session session old old media left c.args.command.now (commands.Store c.in-Store.store) c.store.result c.in-Store.is
-          (write_turn session old (commands.Store c.in-Store.store) (λ m. refl) media left c.store.result
-          (λ m. store_answer m c.in-Store.store) (λ m. record { unfailing = refl; told = refl }) c.store.ensures.answer);
-      refused = λ is. (refl, refl, c.store.ensures.refused is);
+          of_command session session old old media left c.args.command.now (commands.Store c.in-Store.store) reply c.in-Store.is
+          (write_turn session old (commands.Store c.in-Store.store) (λ m. refl) media left reply
+          (λ m. store_answer m c.in-Store.store) (λ m. record { unfailing = refl; told = refl })
+          (subst (λ (told : Reply). IsWrittenFor session media left (λ m. store_answer m c.in-Store.store) told) (sym c.put_reply.ensures) c.store.ensures.answer));
+      refused = λ is. (refl, refl, c.store.ensures.refused (subst (λ (told : Reply). is_refusal told ≡ true) c.put_reply.ensures is));
       memory = tt;
       unfailed = tt;
       ready = λ _. refl;

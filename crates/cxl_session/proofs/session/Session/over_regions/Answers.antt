@@ -18,7 +18,10 @@ use Rattle.cxl_opening.specs.Opening.{endpoints_in, enabling, HasRegions}
 use Rattle.cxl_opening.specs.Opened.{opened_machine, CanOpen, StopsEnabling}
 use Rattle.cxl_session.proofs.Acts.{err_always}
 use Rattle.cxl_opening.proofs.Errors.{not_ok}
+use Rattle.cxl_session.specs.State.{SessionState}
+use Rattle.cxl_session.specs.Standing.{StandsFor}
 use Rattle.cxl_session.proofs.Opened.{opens_so, image_is, half_is, places_are, opened_is_at, same_fault, trail_from_none, memory_not_breach, memory_not_full, memory_not_bus, bus_not_breach, bus_not_full, bus_not_memory, ok_not_err, rose_after, uncrowded}
+use Rattle.cxl_session.proofs.Passing.{and_failed, and_passed}
 use Rattle.cxl_session.proofs.session.Session.over_regions.Goals as goal
 
 pub enable_endpoints-requires : goal.enable_endpoints-requires
@@ -69,14 +72,14 @@ returns-in_default-over g c =
       unfailed = tt;
     }
 
-pub returns-then-is_err : goal.returns-then-is_err
-returns-then-is_err g c =
+pub returns-in_default-and : goal.returns-in_default-and
+returns-in_default-and g c =
     let can = c.requires in
     let old = g.R.Regs.state c.args.regs.now in
     let mid = g.R.Regs.state c.powered_on.new.regs in
     let new = g.R.Regs.state c.enable_endpoints.new.regs in
     let on = c.in-Ok.ensures in
-    let failed = sym c.is_err.ensures.value ∙ c.if-is_err.true in
+    let failed = and_failed c.enable_endpoints.result c.in-Ok-over.session _ c.in_default-and.ensures in
     let stops : StopsEnabling c.deref-2.result.now mid new = on_err_at c.enable_endpoints.result _ failed c.enable_endpoints.ensures.stopped in
     record {
       opened = tt;
@@ -107,32 +110,32 @@ returns g c =
     let new = g.R.Regs.state c.enable_endpoints.new.regs in
     let media = g.M.Media.state c.powered_on.new.media in
     let on = c.in-Ok.ensures in
-    let enabled = sym c.is_err.ensures.value ∙ c.if-is_err.false in
+    let (enabled, same) = and_passed c.enable_endpoints.result c.in-Ok-over.session c.in-Ok-and.session c.in-Ok-and.ensures in
     let are : c.deref-2.result.now ≡ endpoints_in c.args.topo.nodes = c.deref-2.ensures.value ∙ on.endpoints in
     let sent : new.blocks ≡ blocks_sent mid.blocks (enabling c.deref-2.result.now) = on_ok_at c.enable_endpoints.result _ enabled c.enable_endpoints.ensures.blocks in
     let words : new.trail ≡ trail_with mid.trail (enabling c.deref-2.result.now) = on_ok_at c.enable_endpoints.result _ enabled c.enable_endpoints.ensures.words in
     let all : new.blocks ≡ enabled_blocks c.args.start =
     image_is c.args.topo c.args.windows.items c.args.start new.blocks c.deref-2.result.now founds can are
     (sent ∙ ap (λ (bs : List Registers). blocks_sent bs (enabling c.deref-2.result.now)) on.powered.0.0) in
-    let image : c.in-Ok-over.session.image ≡ new.blocks = c.in-Ok-over.ensures.image ∙ sym all in
+    let stands = subst (λ (session : SessionState). StandsFor session (opened_machine s c.args.topo.frames founds)) (sym same) c.in-Ok-over.ensures.stands in
     record {
       opened = (
         opened_machine s c.args.topo.frames founds,
         opens_so s c.args.topo.frames founds can,
-        opened_is_at s c.args.topo.frames founds c.in-Ok-over.session new media c.in-Ok-over.ensures.machine c.in-Ok-over.ensures.stands all
+        opened_is_at s c.args.topo.frames founds c.in-Ok-and.session new media c.in-Ok-over.ensures.machine stands all
             (ap (λ (m : MediaState). m.blocks) on.powered.1) (ap (λ (m : MediaState). m.free) on.powered.1),
       );
       enabled = words ∙ ap (λ (nodes : List ℕ). trail_with mid.trail (enabling nodes)) are ∙ trail_from_none old.trail mid.trail (enabling (endpoints_in c.args.topo.nodes)) on.powered.0.1;
-      handed = c.in-Ok-over.ensures.handed;
-      image = image;
+      handed = (ap (λ (session : SessionState). session.topo) same ∙ c.in-Ok-over.ensures.handed.0, ap (λ (session : SessionState). session.windows) same ∙ c.in-Ok-over.ensures.handed.1);
+      image = ap (λ (session : SessionState). session.image) same ∙ c.in-Ok-over.ensures.image ∙ sym all;
       refused = tt;
-      bus = λ is. absurd (ok_not_err c.in-Ok-over.session faults.Bus is);
-      half_enabled = λ is. absurd (ok_not_err c.in-Ok-over.session faults.Bus is);
-      memory = λ is. absurd (ok_not_err c.in-Ok-over.session faults.Memory is);
+      bus = λ is. absurd (ok_not_err c.in-Ok-and.session faults.Bus is);
+      half_enabled = λ is. absurd (ok_not_err c.in-Ok-and.session faults.Bus is);
+      memory = λ is. absurd (ok_not_err c.in-Ok-and.session faults.Memory is);
       counts = le_trans on.counts c.enable_endpoints.ensures.counts;
       alone = c.enable_endpoints.ensures.alone ∙ on.alone;
       unswallowed = λ counted.
           on_ok_at c.enable_endpoints.result _ enabled c.enable_endpoints.ensures.unswallowed (on.alone ∙ counted) ∙ on.unswallowed counted;
-      unhidden = λ is. absurd (ok_not_err c.in-Ok-over.session faults.Memory is);
+      unhidden = λ is. absurd (ok_not_err c.in-Ok-and.session faults.Memory is);
       unfailed = fails_then (fresh old) mid new [] on.powered.0.1 on.unfailed (on_ok_at c.enable_endpoints.result _ enabled c.enable_endpoints.ensures.unfailed);
     }
