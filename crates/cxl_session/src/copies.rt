@@ -6,6 +6,8 @@ ghost use Rattle.cxl_window.specs.Fields.{WindowFields};
 ghost use Rattle.cxl_script.specs.declared.command.Pair.{Pair};
 ghost use Rattle.cxl_media.specs.MediaState.{MediaState, frame_count};
 ghost use Rattle.cxl_model.specs.declared.found.Found.{Found};
+ghost use Rattle.cxl_model.specs.System.{System, IsSystem};
+ghost use Rattle.cxl_model.specs.Regions.{IsRegionIn};
 ghost use Rattle.cxl_move.specs.Sides.{AreHeld, AreSides, IsMoved, IsCopied};
 ghost use Rattle.cxl_reply.specs.declared.reply.Reply.TheVariants as replies;
 ghost use Rattle.cxl_machine.specs.Machine.{Live, Machine};
@@ -78,9 +80,9 @@ impl Session {
         };
         let from = self.side(first);
         let to = self.side(second);
+        let others = held_count(alloc, media, &to)?;
+        let free = media.free() + others;
         let pieces = held(alloc, media, &from)?;
-        let others = held(alloc, media, &to)?;
-        let free = media.free() + others.len() as u32;
         if pieces.len() as u32 > free {
             return Ok(Reply::Full(Lack {
                 need: pieces.len() as u32,
@@ -129,6 +131,18 @@ impl Session {
         let window = &self.windows[found.window as usize];
         Side { found, window }
     }
+}
+
+/// How many pieces media has of a region. Takes memory.
+fn held_count<M: Roll>(alloc: Global, media: &M, side: &Side<'_>) -> Result<u32, Memory>
+    requires region { (s : System) × IsSystem s × IsRegionIn s side.now.window.now side.now.found.now }
+    requires few { (pieces : List ℕ) → AreHeld side.now.found.now side.now.window.now (M.state media.now).blocks pieces
+        → length pieces ≤ frame_limit }
+    ensures { IfOk result (λ count. (pieces : List ℕ)
+        × AreHeld side.now.found.now side.now.window.now (M.state media.now).blocks pieces × (count ≡ length pieces)) }
+{
+    let pieces = held(alloc, media, side)?;
+    Ok(pieces.len() as u32)
 }
 
 /// What is told of so many pieces.

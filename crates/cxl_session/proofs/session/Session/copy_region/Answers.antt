@@ -24,6 +24,32 @@ side-to-requires g c =
     let two = c.in-Ok.ensures c.requires.0 holds.stands in
     window_within c.args.self.now c.requires.0 c.in-Ok.places.1 two.to holds.stands holds.machine two.to_at
 
+pub held_count-requires : goal.held_count-requires
+held_count-requires g c =
+    let holds = c.requires.1 in
+    let two = c.in-Ok.ensures c.requires.0 holds.stands in
+    let sides =
+    c.sides_hold_pieces.ensures.sides c.args.self.now c.requires.0 c.args.pair.now c.in-Ok.places.0 c.in-Ok.places.1 c.side-from.result.found.now c.side-to.result.found.now c.side-from.result.window.now
+    c.side-to.result.window.now holds.stands holds.machine two c.side-from.ensures c.side-to.ensures in
+    record {
+      region = (sides.s, sides.system, sides.second);
+      few = λ pieces are.
+          let few =
+          c.sides_hold_pieces.ensures.few c.args.self.now (g.M.Media.state c.args.media.now) c.requires.0 two.to c.in-Ok.places.1 c.side-to.result.found.now c.side-to.result.window.now pieces holds
+          two.to_at c.side-to.ensures are in
+          omega (arith, few);
+    }
+
+pub overflow_add-free : goal.overflow_add-free
+overflow_add-free g c =
+    let holds = c.requires.1 in
+    let two = c.in-Ok.ensures c.requires.0 holds.stands in
+    let others = c.in_ok-others.ensures in
+    let few =
+    c.sides_hold_pieces.ensures.few c.args.self.now (g.M.Media.state c.args.media.now) c.requires.0 two.to c.in-Ok.places.1 c.side-to.result.found.now c.side-to.result.window.now others.0 holds
+    two.to_at c.side-to.ensures others.1 in
+    omega (arith, few, others.2, c.free.ensures)
+
 pub held-requires : goal.held-requires
 held-requires g c =
     let holds = c.requires.1 in
@@ -33,33 +59,6 @@ held-requires g c =
     c.side-to.result.window.now holds.stands holds.machine two c.side-from.ensures c.side-to.ensures in
     (sides.s, sides.system, sides.first)
 
-pub held-requires-2 : goal.held-requires-2
-held-requires-2 g c =
-    let holds = c.requires.1 in
-    let two = c.in-Ok.ensures c.requires.0 holds.stands in
-    let sides =
-    c.sides_hold_pieces.ensures.sides c.args.self.now c.requires.0 c.args.pair.now c.in-Ok.places.0 c.in-Ok.places.1 c.side-from.result.found.now c.side-to.result.found.now c.side-from.result.window.now
-    c.side-to.result.window.now holds.stands holds.machine two c.side-from.ensures c.side-to.ensures in
-    (sides.s, sides.system, sides.second)
-
-pub overflow_cast-free : goal.overflow_cast-free
-overflow_cast-free g c =
-    let holds = c.requires.1 in
-    let two = c.in-Ok.ensures c.requires.0 holds.stands in
-    let few =
-    c.sides_hold_pieces.ensures.few c.args.self.now (g.M.Media.state c.args.media.now) c.requires.0 two.to c.in-Ok.places.1 c.side-to.result.found.now c.side-to.result.window.now c.in_ok-others.others.items holds
-    two.to_at c.side-to.ensures c.in_ok-others.ensures in
-    omega (arith, few, c.len.ensures)
-
-pub overflow_add-free : goal.overflow_add-free
-overflow_add-free g c =
-    let holds = c.requires.1 in
-    let two = c.in-Ok.ensures c.requires.0 holds.stands in
-    let few =
-    c.sides_hold_pieces.ensures.few c.args.self.now (g.M.Media.state c.args.media.now) c.requires.0 two.to c.in-Ok.places.1 c.side-to.result.found.now c.side-to.result.window.now c.in_ok-others.others.items holds
-    two.to_at c.side-to.ensures c.in_ok-others.ensures in
-    omega (arith, few, c.len.ensures, c.free.ensures)
-
 pub overflow_cast-len : goal.overflow_cast-len
 overflow_cast-len g c =
     let holds = c.requires.1 in
@@ -67,7 +66,7 @@ overflow_cast-len g c =
     let few =
     c.sides_hold_pieces.ensures.few c.args.self.now (g.M.Media.state c.args.media.now) c.requires.0 two.from c.in-Ok.places.0 c.side-from.result.found.now c.side-from.result.window.now c.in_ok-pieces.pieces.items holds
     two.from_at c.side-from.ensures c.in_ok-pieces.ensures in
-    omega (arith, few, c.len-2.ensures)
+    omega (arith, few, c.len.ensures)
 
 pub overflow_cast-result : goal.overflow_cast-result
 overflow_cast-result g c =
@@ -91,49 +90,49 @@ pub returns-then-len-free-clause-answer : goal.returns-then-len-free-clause-answ
 returns-then-len-free-clause-answer g c = λ m holds.
     let two = c.in-Ok.ensures m holds.stands in
     let pieces : List ℕ = c.in_ok-pieces.pieces.items in
-    let others : List ℕ = c.in_ok-others.others.items in
+    let others = c.in_ok-others.ensures in
     let old : MediaState = g.M.Media.state c.args.media.now in
-    let short : old.free + length others < length pieces = omega (arith, c.len.ensures, c.len-2.ensures, c.free.ensures) in
+    let short : old.free + length others.0 < length pieces = omega (arith, others.2, c.len.ensures, c.free.ensures, c.if-len-free.true) in
     let written =
     c.copied_pieces_are_answers.ensures.full c.args.self.now old m c.args.pair.now c.in-Ok.places.0 c.in-Ok.places.1
-    c.side-from.result.found.now c.side-to.result.found.now c.side-from.result.window.now c.side-to.result.window.now pieces others holds two c.side-from.ensures c.side-to.ensures c.in_ok-pieces.ensures
-    c.in_ok-others.ensures short in
+    c.side-from.result.found.now c.side-to.result.found.now c.side-from.result.window.now c.side-to.result.window.now pieces others.0 holds two c.side-from.ensures c.side-to.ensures c.in_ok-pieces.ensures
+    others.1 short in
     let need : length pieces ≡ c.len-then-len-free.result = omega (arith, c.len-then-len-free.ensures) in
-    let free : old.free + length others ≡ c.free.result + c.len.result = omega (arith, c.len.ensures, c.free.ensures) in
+    let free : old.free + length others.0 ≡ c.free.result + c.in_ok-others.others = omega (arith, others.2, c.free.ensures) in
     subst (λ (x : Lack). IsWrittenAs c.args.self.now old (copy_answer m c.args.pair.now) (replies.Full x)) (λ i. record { need = need i; free = free i }) written
 
 pub returns-clause-answer : goal.returns-clause-answer
 returns-clause-answer g c = λ m holds.
     let two = c.in-Ok.ensures m holds.stands in
     let pieces : List ℕ = c.in_ok-pieces.pieces.items in
-    let others : List ℕ = c.in_ok-others.others.items in
+    let others = c.in_ok-others.ensures in
     let old : MediaState = g.M.Media.state c.args.media.now in
-    let room : length pieces ≤ old.free + length others = omega (arith, c.len.ensures, c.len-2.ensures, c.free.ensures) in
+    let room : length pieces ≤ old.free + length others.0 = omega (arith, others.2, c.len.ensures, c.free.ensures, c.if-len-free.false) in
     let written =
     c.copied_pieces_are_answers.ensures.copied c.args.self.now old (g.M.Media.state c.copy_bytes.new.media) m c.args.pair.now c.in-Ok.places.0 c.in-Ok.places.1
-    c.side-from.result.found.now c.side-to.result.found.now c.side-from.result.window.now c.side-to.result.window.now pieces others holds two c.side-from.ensures c.side-to.ensures c.in_ok-pieces.ensures
-    c.in_ok-others.ensures room c.copy_bytes.ensures.copied c.copy_bytes.ensures.frames in
+    c.side-from.result.found.now c.side-to.result.found.now c.side-from.result.window.now c.side-to.result.window.now pieces others.0 holds two c.side-from.ensures c.side-to.ensures c.in_ok-pieces.ensures
+    others.1 room c.copy_bytes.ensures.copied c.copy_bytes.ensures.frames in
     let told : record { from = c.args.pair.now.from; to = c.args.pair.now.to; pieces = length pieces } ≡ c.pair_details.result =
     sym (c.pair_details.ensures ∙ (λ i. record { from = c.args.pair.now.from; to = c.args.pair.now.to; pieces = length (c.deref-2.ensures.value i) })) in
     subst (λ (x : Carried). IsWrittenAs c.args.self.now (g.M.Media.state c.copy_bytes.new.media) (copy_answer m c.args.pair.now) (replies.Copied x)) told written
 
-pub returns-in_err-pieces-clause-answer : goal.returns-in_err-pieces-clause-answer
-returns-in_err-pieces-clause-answer g c = not_ok _ c.from_residual.result _ c.from_residual.ensures.1
-
-pub returns-in_err-pieces-clause-refused : goal.returns-in_err-pieces-clause-refused
-returns-in_err-pieces-clause-refused g c = not_ok _ c.from_residual.result _ c.from_residual.ensures.1
-
-pub returns-in_err-pieces-clause-memory : goal.returns-in_err-pieces-clause-memory
-returns-in_err-pieces-clause-memory g c = at_any_err c.from_residual.result _ refl
-
 pub returns-in_err-others-clause-answer : goal.returns-in_err-others-clause-answer
-returns-in_err-others-clause-answer g c = not_ok _ c.from_residual-in_err-others.result _ c.from_residual-in_err-others.ensures.1
+returns-in_err-others-clause-answer g c = not_ok _ c.from_residual.result _ c.from_residual.ensures.1
 
 pub returns-in_err-others-clause-refused : goal.returns-in_err-others-clause-refused
-returns-in_err-others-clause-refused g c = not_ok _ c.from_residual-in_err-others.result _ c.from_residual-in_err-others.ensures.1
+returns-in_err-others-clause-refused g c = not_ok _ c.from_residual.result _ c.from_residual.ensures.1
 
 pub returns-in_err-others-clause-memory : goal.returns-in_err-others-clause-memory
-returns-in_err-others-clause-memory g c = at_any_err c.from_residual-in_err-others.result _ refl
+returns-in_err-others-clause-memory g c = at_any_err c.from_residual.result _ refl
+
+pub returns-in_err-pieces-clause-answer : goal.returns-in_err-pieces-clause-answer
+returns-in_err-pieces-clause-answer g c = not_ok _ c.from_residual-in_err-pieces.result _ c.from_residual-in_err-pieces.ensures.1
+
+pub returns-in_err-pieces-clause-refused : goal.returns-in_err-pieces-clause-refused
+returns-in_err-pieces-clause-refused g c = not_ok _ c.from_residual-in_err-pieces.result _ c.from_residual-in_err-pieces.ensures.1
+
+pub returns-in_err-pieces-clause-memory : goal.returns-in_err-pieces-clause-memory
+returns-in_err-pieces-clause-memory g c = at_any_err c.from_residual-in_err-pieces.result _ refl
 
 pub returns-in-Err-clause-answer : goal.returns-in-Err-clause-answer
 returns-in-Err-clause-answer g c = λ m holds.
@@ -161,7 +160,8 @@ returns-then-len-free-clause-memory g c = tt
 pub copy_bytes-requires-clause-room : goal.copy_bytes-requires-clause-room
 copy_bytes-requires-clause-room g c =
     let same : length c.deref.result.now ≡ length c.in_ok-pieces.pieces.items = ap (λ (ns : List ℕ). length ns) c.deref.ensures.value in
-    (c.in_ok-others.others.items, c.in_ok-others.ensures, omega (arith, same, c.len.ensures, c.len-2.ensures, c.free.ensures))
+    let others = c.in_ok-others.ensures in
+    (others.0, others.1, omega (arith, same, others.2, c.len.ensures, c.free.ensures, c.if-len-free.false))
 
 pub copy_bytes-requires-clause-sides : goal.copy_bytes-requires-clause-sides
 copy_bytes-requires-clause-sides g c =
