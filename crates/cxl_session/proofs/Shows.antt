@@ -3,7 +3,7 @@ use Rattle.std.proofs.Common.{◌≡◌, ℕ, ◌+◌, ◌<◌, ◌≤◌, List,
 use Rattle.std.specs.Prelude.{slice_get, slice_set, unwrap_or, option_map, option_and_then, All, Contains, IsSomeAnd}
 use Rattle.std.specs.Option.{option_map_or, is_some}
 use Rattle.std.specs.List.{filter_map, range_with_len}
-use Rattle.std.proofs.lemmas.List.{take_more, take_more_set}
+use Rattle.std.proofs.lemmas.List.{take_more, take_more_set, map-append}
 use Rattle.std.proofs.lemmas.Option.{none-some, same_Some, slice_get_within, slice_get-get_or}
 use Rattle.cxl_enc.proofs.Lists.{contains_at}
 use Rattle.cxl_regs.specs.declared.decoder.Decoder.{Decoder}
@@ -113,6 +113,11 @@ word_more row place words word low long are is =
 pub record HasReadRows (rows : List Row) (count : ℕ) (shown : List ShownRow) (old new : RegsState) : Type 0 where
   pub are : shown ≡ map shown_row (take count rows)
   pub read : HasRead old new
+
+-- one row more
+pub shown_more : (rows : List Row) (count : ℕ) (none : Row) → count < length rows
+    → map shown_row (take (count + 1) rows) ≡ map shown_row (take count rows) ++ shown_row (get_or rows count none) ∷ []
+shown_more rows count none low = ap (λ (front : List Row). map shown_row front) (take_more rows count none low) ∙ map-append shown_row (take count rows) (get_or rows count none ∷ [])
 
 -- ---- the rows of a region
 

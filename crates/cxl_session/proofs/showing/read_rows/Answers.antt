@@ -1,19 +1,26 @@
-use Rattle.std.proofs.Common.{◌≡◌, ◌<◌, List, map, take, length, ap, ◌∙◌, arith}
+use Rattle.std.proofs.Common.{◌≡◌, ◌<◌, List, [], ◌∷◌, ◌++◌, map, take, length, sym, ap, ◌∙◌, arith}
 use Rattle.std.proofs.Math.Nat.{le_trans}
 use Rattle.std.proofs.lemmas.List.{length-map, length-take, take_all}
-use Rattle.std.proofs.lemmas.Grind.{common_steps}
 use Rattle.cxl_model.specs.declared.plan.Row.{Row}
 use Rattle.cxl_reply.specs.declared.details.ShownRow.{ShownRow}
 use Rattle.cxl_machine.specs.Reports.{shown_row}
 use Rattle.cxl_opening.proofs.Errors.{at_any_err}
-use Rattle.cxl_session.proofs.Shows.{HasRead, read_more, read_stops, untouched_more}
+use Rattle.cxl_session.proofs.Shows.{shown_more, read_more, read_stops, untouched_more}
 use Rattle.cxl_session.proofs.showing.read_rows.Goals as goal
 
 pub loop-row-preserved : goal.loop-row-preserved
 loop-row-preserved g c =
-    let read : HasRead (g.R.Regs.state c.args.regs.now) (g.R.Regs.state c.read_row.new.regs) =
-    read_more _ (g.R.Regs.state c.loop-row.regs) _ c.loop-row.invariant.rows.read c.read_row.ensures.same c.read_row.ensures.counts c.in_ok-words.ensures.unfailed in
-    grind (arith, common_steps)
+    let rows : List Row = c.args.rows.now in
+    let front : List ShownRow = map shown_row (take c.loop-row.row-index rows) in
+    record {
+      rows = record {
+        are =
+            c.push_reserved.ensures.items ∙ ap (λ (all : List ShownRow). all ++ c.in_ok-words.words ∷ []) c.loop-row.invariant.rows.are
+            ∙ ap (λ (one : ShownRow). front ++ one ∷ []) c.in_ok-words.ensures.shown ∙ sym (shown_more rows c.loop-row.row-index _ c.loop-row-test.true);
+        read = read_more _ (g.R.Regs.state c.loop-row.regs) _ c.loop-row.invariant.rows.read c.read_row.ensures.same c.read_row.ensures.counts c.in_ok-words.ensures.unfailed;
+      };
+      room = omega (arith, c.push_reserved.ensures.capacity, c.loop-row.invariant.room);
+    }
 
 pub push_reserved-requires : goal.push_reserved-requires
 push_reserved-requires g c =
