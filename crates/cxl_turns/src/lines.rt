@@ -1,6 +1,7 @@
 //! The lines of a script, carried out one after the other.
 
-ghost use Rattle.std.specs.Prelude.{◌≤◌, List};
+ghost use Rattle.std.specs.Prelude.{◌≡◌, ◌≤◌, List};
+ghost use Rattle.cxl_io.specs.Reader.{fresh_reader};
 ghost use Rattle.cxl_machine.specs.Scripts.{Asked, Turn};
 ghost use Rattle.cxl_session.specs.Standing.{Stands, ForEachMachine};
 ghost use Rattle.cxl_turns.specs.Endings.{EndsLines};
@@ -53,19 +54,54 @@ pub fn carry_out_lines<S: Source, K: Sink, R: Regs, M: Roll>(
     };
     let mut reply = Reply::NothingPending;
     let mut replies = Lines::new(alloc);
+    carry_out_read(
+        alloc,
+        session,
+        &mut reader,
+        script,
+        &mut reply,
+        &mut replies,
+        out,
+        regs,
+        media,
+    )
+}
+
+/// Carries out the lines that a reader takes of a script, from its first one on.
+fn carry_out_read<S: Source, K: Sink, R: Regs, M: Roll>(
+    alloc: Global,
+    session: &mut Session,
+    reader: &mut LineReader,
+    script: &mut S,
+    reply: &mut Reply,
+    lines: &mut Lines<0>,
+    out: &mut K,
+    regs: &mut R,
+    media: &mut M,
+) -> Ending
+    requires stands { Stands session.old (R.state regs.old) (M.state media.old) }
+    requires fresh { reader.old ≡ fresh_reader }
+    ensures ends { ForEachMachine session.old (R.state regs.old) (M.state media.old) (λ m. (asked : List Asked) × (turns : List Turn)
+        × HasGoneOn m asked turns session.new (R.state regs.old) (R.state regs.new) (M.state media.new)
+        × EndsLines m.settled.nodes asked turns (S.state script.old) (S.state script.new)
+        (K.state out.old) (K.state out.new) result) }
+    ensures source { (S.state script.old).faults ≤ (S.state script.new).faults }
+    ensures sink { (K.state out.old).faults ≤ (K.state out.new).faults }
+    ensures bus { (R.state regs.old).faults ≤ (R.state regs.new).faults }
+{
     'lines: loop {
         let carried = match reader.next(script) {
             Taken::Line => carry_out_line(
                 alloc,
                 session,
                 reader.line(),
-                &mut reply,
-                &mut replies,
+                reply,
+                lines,
                 out,
                 regs,
                 media,
             ),
-            Taken::Long => tell_bad_line(LONG, session, &mut replies, out),
+            Taken::Long => tell_bad_line(LONG, session, lines, out),
             Taken::End => return Ending::Done,
             Taken::Fault => return Ending::ReadFault,
             Taken::TooMuch => return Ending::TooMuch,

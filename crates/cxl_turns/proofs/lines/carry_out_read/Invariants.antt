@@ -1,6 +1,6 @@
 use Rattle.cxl_turns.proofs.FirstLines.{still}
 use Rattle.cxl_turns.proofs.Runs.{HaveRun}
-use Rattle.cxl_turns.proofs.lines.carry_out_lines.Given as goal
+use Rattle.cxl_turns.proofs.lines.carry_out_read.Given as goal
 
 -- the lines so far are carried out
 abbrev pub invariant-lines : goal.invariant-lines
