@@ -3,3 +3,4 @@ pub mod Seen
 pub mod Answers
 pub mod Ports
 pub mod Fields
+pub mod Sections

@@ -23,10 +23,24 @@ pub(crate) fn attach(
     ensures { IfOk result (λ nodes. nodes.items ≡ attached bridges.now drafts.now) }
 {
     let mut nodes = Vec::with_capacity(alloc, bridges.len() + drafts.len())?;
-    let mut ports = HashMap::with_capacity(alloc, bridges.len())?;
-    add_bridge_nodes(&mut nodes, &mut ports, bridges)?;
-    add_drafts(&mut nodes, &mut ports, drafts)?;
+    add_nodes(alloc, &mut nodes, bridges, drafts)?;
     Ok(nodes)
+}
+
+/// Adds the bridges, and after them the nodes of the drafts.
+fn add_nodes(
+    alloc: Global,
+    nodes: &mut Vec<Node>,
+    bridges: &[Node],
+    drafts: &[Draft],
+) -> Result<(), AllocError>
+    requires few { length bridges.now + length drafts.now ≤ node_limit }
+    requires none { nodes.old.items ≡ [] }
+    ensures { OnOk result (nodes.new.items ≡ attached bridges.now drafts.now) }
+{
+    let mut ports = HashMap::with_capacity(alloc, bridges.len())?;
+    add_bridge_nodes(nodes, &mut ports, bridges)?;
+    add_drafts(nodes, &mut ports, drafts)
 }
 
 /// Adds the bridges, the first nodes.

@@ -57,6 +57,22 @@ pub enum Section {
     Endpoint,
 }
 
+impl Section {
+    ghost use Rattle.cxl_topofile.specs.inner.Sections.{section_name};
+
+    /// The section as a message names it.
+    fn name(self) -> &'static str
+        ensures { result.now ≡ section_name self }
+    {
+        match self {
+            Section::Top => "top",
+            Section::Bridge => "bridge",
+            Section::Switch => "switch",
+            Section::Endpoint => "endpoint",
+        }
+    }
+}
+
 impl fmt::Display for TableKey {
     ghost use Rattle.std.specs.Prelude.{Some};
     ghost use Rattle.cxl_topofile.specs.Places.{place_text};
@@ -68,9 +84,7 @@ impl fmt::Display for TableKey {
         let key = self.key.shown();
         match self.section {
             Section::Top => write!(f, "top {key}"),
-            Section::Bridge => write!(f, "bridge {index} {key}"),
-            Section::Switch => write!(f, "switch {index} {key}"),
-            Section::Endpoint => write!(f, "endpoint {index} {key}"),
+            section => write!(f, "{} {index} {key}", section.name()),
         }
     }
 }
