@@ -1,4 +1,5 @@
 pub mod Fielding
+pub mod Steps
 pub mod Turns
 pub mod Attaching
 pub mod Whole

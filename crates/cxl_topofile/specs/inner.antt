@@ -4,3 +4,4 @@ pub mod Answers
 pub mod Ports
 pub mod Fields
 pub mod Sections
+pub mod Steps

@@ -1,14 +1,15 @@
 //! The node that each table of a file states.
 
-ghost use Rattle.std.specs.Prelude.{◌≡◌, Ok, Err, if◌then◌else◌};
+ghost use Rattle.std.specs.Prelude.{◌≡◌, Ok, IfOk, IsTrue, if◌then◌else◌};
+ghost use Rattle.cxl_enc.specs.Caps.{are_caps, word_of};
+ghost use Rattle.cxl_enc.specs.Limits.{placeholder_cap};
 ghost use Rattle.toml.specs.View.{table_view};
-ghost use Rattle.cxl_topofile.specs.declared.key.Key.TheVariants.{Unknown};
-ghost use Rattle.cxl_topofile.specs.Wrongs.{missing};
-ghost use Rattle.cxl_topofile.specs.Drafts.{port_caps_of, port_of, bridge_of, switch_of, endpoint_cap_of, endpoint_of};
+ghost use Rattle.cxl_topofile.specs.Drafts.{known_in, bridge_keys, switch_keys, endpoint_keys, port_caps_of, port_of, bridge_of, switch_of, endpoint_cap_of, endpoint_of};
 ghost use Rattle.cxl_topofile.specs.inner.Fields.{members_of, AreFields};
+ghost use Rattle.cxl_topofile.specs.inner.Steps.{caps_of, seat_of, capacity_of};
 
 use crate::fault::Wrong;
-use crate::fields::{Fields, values_of};
+use crate::fields::{Fields, fields_of};
 use crate::key::Key;
 use crate::value::{decoders, flag, name, number, targets};
 use cxl_enc::{ADDRESS_LIMIT, PLACEHOLDER_CAP};
@@ -73,40 +74,44 @@ pub(crate) struct PortCaps {
     pub forwards: bool,
 }
 
-/// Refuses a table that has other keys.
-pub(crate) fn known(others: bool) -> Result<(), Wrong>
-    ensures { result ≡ (if others then Err (missing Unknown) else Ok tt) }
-{
-    if others {
-        return Err(Wrong::missing(Key::Unknown));
-    }
-    Ok(())
-}
-
-#[tactic(auto, unfolding(crate::specs::Drafts::port_caps_of))]
 fn read_port_caps(fields: &Fields<'_>) -> Result<PortCaps, Wrong>
     requires { AreFields fields.now }
     ensures { result ≡ port_caps_of (members_of fields.now) }
 {
-    let decoders = decoders(fields)?;
-    let targets = targets(fields)?;
-    let low = flag(fields, Key::Low, true)?;
-    let high = flag(fields, Key::High, true)?;
+    let caps = read_caps(fields)?;
     let forwards = flag(fields, Key::Passthrough, false)?;
-    let caps = Caps {
-        decoders,
-        targets,
-        low,
-        high,
+    Ok(port_caps(&caps, forwards))
+}
+
+/// The capabilities that the keys of a bridge or a switch say.
+#[tactic(auto, unfolding(crate::specs::inner::Steps::caps_of))]
+fn read_caps(fields: &Fields<'_>) -> Result<Caps, Wrong>
+    requires { AreFields fields.now }
+    ensures caps { result ≡ caps_of (members_of fields.now) }
+    ensures sound { IfOk result (λ caps. IsTrue (are_caps caps)) }
+{
+    Ok(Caps {
+        decoders: decoders(fields)?,
+        targets: targets(fields)?,
+        low: flag(fields, Key::Low, true)?,
+        high: flag(fields, Key::High, true)?,
         ways3: false,
         ways16: false,
-    };
+    })
+}
+
+/// The word of these capabilities, or a placeholder's where the node forwards.
+fn port_caps(caps: &Caps, forwards: bool) -> PortCaps
+    requires { IsTrue (are_caps caps.now) }
+    ensures cap { result.cap ≡ (if forwards then placeholder_cap else word_of caps.now) }
+    ensures forwards { result.forwards ≡ forwards }
+{
     let cap = if forwards {
         PLACEHOLDER_CAP
     } else {
-        cap_word(&caps)
+        cap_word(caps)
     };
-    Ok(PortCaps { cap, forwards })
+    PortCaps { cap, forwards }
 }
 
 fn read_port(fields: &Fields<'_>) -> Result<u8, Wrong>
@@ -117,17 +122,44 @@ fn read_port(fields: &Fields<'_>) -> Result<u8, Wrong>
     Ok(port as u8)
 }
 
+/// The name of a switch or an endpoint, the name of the node above, and the port there.
+#[derive(Clone, Copy)]
+pub(crate) struct Seat {
+    pub name: Name,
+    pub parent: Name,
+    pub port: u8,
+}
+
+#[tactic(auto, unfolding(crate::specs::inner::Steps::seat_of))]
+fn read_seat(fields: &Fields<'_>) -> Result<Seat, Wrong>
+    requires { AreFields fields.now }
+    ensures { result ≡ seat_of (members_of fields.now) }
+{
+    Ok(Seat {
+        name: name(fields, Key::Name)?,
+        parent: name(fields, Key::Parent)?,
+        port: read_port(fields)?,
+    })
+}
+
 /// The bridge of a table.
-#[tactic(auto, unfolding(crate::specs::Drafts::bridge_of))]
 pub(crate) fn read_bridge(table: &Table) -> Result<Node, Wrong>
     ensures { result ≡ bridge_of (table_view table.now) }
 {
-    let (values, others) = values_of(table, &BRIDGE_KEYS);
-    known(others)?;
-    let fields = Fields { table, values };
-    let name = name(&fields, Key::Name)?;
-    let uid = number(&fields, Key::Uid, None, 0, MAX_UID)?;
-    let caps = read_port_caps(&fields)?;
+    let fields = fields_of(table, &BRIDGE_KEYS)?;
+    bridge_from(&fields)
+}
+
+/// The bridge of these fields.
+#[tactic(auto, unfolding(crate::specs::Drafts::bridge_of))]
+fn bridge_from(fields: &Fields<'_>) -> Result<Node, Wrong>
+    requires fields { AreFields fields.now }
+    requires known { known_in (members_of fields.now) bridge_keys ≡ Ok tt }
+    ensures { result ≡ bridge_of (members_of fields.now) }
+{
+    let name = name(fields, Key::Name)?;
+    let uid = number(fields, Key::Uid, None, 0, MAX_UID)?;
+    let caps = read_port_caps(fields)?;
     Ok(Node {
         name,
         kind: NodeKind::Bridge(uid as u32),
@@ -138,22 +170,26 @@ pub(crate) fn read_bridge(table: &Table) -> Result<Node, Wrong>
 }
 
 /// The switch of a table.
-#[tactic(auto, unfolding(crate::specs::Drafts::switch_of))]
 pub(crate) fn read_switch(table: &Table) -> Result<Draft, Wrong>
     ensures { result ≡ switch_of (table_view table.now) }
 {
-    let (values, others) = values_of(table, &SWITCH_KEYS);
-    known(others)?;
-    let fields = Fields { table, values };
-    let own = name(&fields, Key::Name)?;
-    let parent = name(&fields, Key::Parent)?;
-    let port = read_port(&fields)?;
-    let caps = read_port_caps(&fields)?;
+    let fields = fields_of(table, &SWITCH_KEYS)?;
+    switch_from(&fields)
+}
+
+/// The switch of these fields.
+fn switch_from(fields: &Fields<'_>) -> Result<Draft, Wrong>
+    requires fields { AreFields fields.now }
+    requires known { known_in (members_of fields.now) switch_keys ≡ Ok tt }
+    ensures { result ≡ switch_of (members_of fields.now) }
+{
+    let seat = read_seat(fields)?;
+    let caps = read_port_caps(fields)?;
     Ok(Draft {
-        name: own,
+        name: seat.name,
         kind: NodeKind::Switch,
-        parent,
-        port,
+        parent: seat.parent,
+        port: seat.port,
         cap: caps.cap,
         forwards: caps.forwards,
     })
@@ -176,25 +212,38 @@ fn read_endpoint_cap(fields: &Fields<'_>) -> Result<u32, Wrong>
 }
 
 /// The endpoint of a table.
-#[tactic(auto, unfolding(crate::specs::Drafts::endpoint_of))]
 pub(crate) fn read_endpoint(table: &Table) -> Result<Draft, Wrong>
     ensures { result ≡ endpoint_of (table_view table.now) }
 {
-    let (values, others) = values_of(table, &ENDPOINT_KEYS);
-    known(others)?;
-    let fields = Fields { table, values };
-    let own = name(&fields, Key::Name)?;
-    let parent = name(&fields, Key::Parent)?;
-    let port = read_port(&fields)?;
-    let cap = read_endpoint_cap(&fields)?;
-    let ram = number(&fields, Key::Ram, Some(0), 0, ADDRESS_LIMIT)?;
-    let pmem = number(&fields, Key::Pmem, Some(0), 0, ADDRESS_LIMIT)?;
+    let fields = fields_of(table, &ENDPOINT_KEYS)?;
+    endpoint_from(&fields)
+}
+
+/// The endpoint of these fields.
+fn endpoint_from(fields: &Fields<'_>) -> Result<Draft, Wrong>
+    requires fields { AreFields fields.now }
+    requires known { known_in (members_of fields.now) endpoint_keys ≡ Ok tt }
+    ensures { result ≡ endpoint_of (members_of fields.now) }
+{
+    let seat = read_seat(fields)?;
+    let cap = read_endpoint_cap(fields)?;
+    let capacity = read_capacity(fields)?;
     Ok(Draft {
-        name: own,
-        kind: NodeKind::Endpoint(Capacity { ram, pmem }),
-        parent,
-        port,
+        name: seat.name,
+        kind: NodeKind::Endpoint(capacity),
+        parent: seat.parent,
+        port: seat.port,
         cap,
         forwards: false,
     })
+}
+
+#[tactic(auto, unfolding(crate::specs::inner::Steps::capacity_of))]
+fn read_capacity(fields: &Fields<'_>) -> Result<Capacity, Wrong>
+    requires { AreFields fields.now }
+    ensures { result ≡ capacity_of (members_of fields.now) }
+{
+    let ram = number(fields, Key::Ram, Some(0), 0, ADDRESS_LIMIT)?;
+    let pmem = number(fields, Key::Pmem, Some(0), 0, ADDRESS_LIMIT)?;
+    Ok(Capacity { ram, pmem })
 }

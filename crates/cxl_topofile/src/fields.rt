@@ -1,12 +1,14 @@
 //! The values of a table by key, found by one walk over its entries.
 
-ghost use Rattle.std.specs.Prelude.{◌≡◌, ◌==◌, option_map};
+ghost use Rattle.std.specs.Prelude.{◌≡◌, ◌==◌, option_map, Err, IfOk, IfErr};
 ghost use Rattle.std.specs.List.{list_any};
 ghost use Rattle.toml.specs.Data.{get_member};
 ghost use Rattle.toml.specs.View.{view, table_view};
 ghost use Rattle.cxl_topofile.specs.Keys.{key_text, has_unknown};
-ghost use Rattle.cxl_topofile.specs.inner.Fields.{slot_of, value_in, members_of, HasFields, AreFields};
+ghost use Rattle.cxl_topofile.specs.Drafts.{known_in};
+ghost use Rattle.cxl_topofile.specs.inner.Fields.{slot_of, value_in, members_of, HasFields, AreFields, AreAllFields};
 
+use crate::fault::Wrong;
 use crate::key::{Key, SLOTS, slot_at};
 use toml::{Table, Value};
 
@@ -24,6 +26,18 @@ pub(crate) fn found<'a>(fields: &Fields<'a>, key: Key) -> Option<&'a Value>
     ensures { option_map (λ value. view value.now) result ≡ get_member (key_text key) (members_of fields.now) }
 {
     value_in(&fields.values, key)
+}
+
+/// A table by its keys, where it has no other ones.
+pub(crate) fn fields_of<'a>(table: &'a Table, keys: &[Key]) -> Result<Fields<'a>, Wrong>
+    ensures all { IfOk result (λ fields. AreAllFields fields (table_view table.now) keys.now) }
+    ensures fault { IfErr result (λ wrong. known_in (table_view table.now) keys.now ≡ Err wrong) }
+{
+    let (values, others) = values_of(table, keys);
+    if others {
+        return Err(Wrong::missing(Key::Unknown));
+    }
+    Ok(Fields { table, values })
 }
 
 /// The values of a table by the slots of their keys, and whether it has a key beside these.

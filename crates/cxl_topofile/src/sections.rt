@@ -1,20 +1,21 @@
 //! The sections of a file, in the order in which their faults count.
 
-ghost use Rattle.std.specs.Prelude.{◌≡◌, ◌≤◌, ◌++◌, IsTrue, IfOk};
+ghost use Rattle.std.specs.Prelude.{◌≡◌, ◌≤◌, ◌++◌, Ok, IsTrue, IfOk};
 ghost use Rattle.std.specs.List.{list_all};
 ghost use Rattle.cxl_enc.specs.Limits.{frame_limit};
 ghost use Rattle.toml.specs.Data.{as_array, no_items};
 ghost use Rattle.toml.specs.View.{view, table_view, items_view};
 ghost use Rattle.cxl_topofile.specs.Values.{value_at, Gives};
-ghost use Rattle.cxl_topofile.specs.Drafts.{bridge_of};
-ghost use Rattle.cxl_topofile.specs.Groups.{Reads, section_of, draft_of, all_of, are_tables, tables_of, tables_at, top_of, stated_of};
+ghost use Rattle.cxl_topofile.specs.Drafts.{known_in, bridge_of};
+ghost use Rattle.cxl_topofile.specs.Groups.{Reads, section_of, draft_of, all_of, are_tables, tables_of, tables_at, top_keys, top_of, stated_of};
 ghost use Rattle.cxl_topofile.specs.inner.Seen.{seen_top, seen_stated, is_table, IsTop, AddsTable};
 ghost use Rattle.std.specs.Prelude.{Some};
 ghost use Rattle.cxl_topofile.specs.inner.Fields.{members_of, AreFields};
+ghost use Rattle.cxl_topofile.specs.inner.Steps.{drafts_of};
 
-use crate::draft::{Draft, known, read_bridge};
+use crate::draft::{Draft, read_bridge};
 use crate::fault::{Section, TopoFault, Wrong};
-use crate::fields::{Fields, found, values_of};
+use crate::fields::{Fields, fields_of, found};
 use crate::group::Group;
 use crate::key::Key;
 use crate::stated::{Stated, Top};
@@ -40,9 +41,7 @@ pub(crate) fn read_table(alloc: Global, table: &Table) -> Result<Stated, TopoFau
         Err(wrong) => return Err(wrong.at(Section::Top, 0)),
     };
     let bridges = read_bridges(alloc, top.bridges)?;
-    let mut drafts = read_drafts(alloc, Group::Switches, top.switches)?;
-    let endpoints = read_drafts(alloc, Group::Endpoints, top.endpoints)?;
-    drafts.extend_from_slice(&endpoints)?;
+    let drafts = read_groups(alloc, top.switches, top.endpoints)?;
     Ok(Stated {
         bridges,
         drafts,
@@ -50,24 +49,32 @@ pub(crate) fn read_table(alloc: Global, table: &Table) -> Result<Stated, TopoFau
     })
 }
 
-#[tactic(auto, unfolding(crate::specs::Groups::top_of))]
 fn read_top(table: &Table) -> Result<Top<'_>, Wrong>
     ensures top { Gives seen_top result (top_of (table_view table.now)) }
     ensures sound { IfOk result IsTop }
 {
-    let (values, others) = values_of(table, &TOP_KEYS);
-    known(others)?;
-    let fields = Fields { table, values };
+    let fields = fields_of(table, &TOP_KEYS)?;
+    top_from(&fields)
+}
+
+/// The top table of these fields.
+#[tactic(auto, unfolding(crate::specs::Groups::top_of))]
+fn top_from<'a>(fields: &Fields<'a>) -> Result<Top<'a>, Wrong>
+    requires fields { AreFields fields.now }
+    requires known { known_in (members_of fields.now) top_keys ≡ Ok tt }
+    ensures top { Gives seen_top result (top_of (members_of fields.now)) }
+    ensures sound { IfOk result IsTop }
+{
     let frames = number(
-        &fields,
+        fields,
         Key::Frames,
         Some(DEFAULT_FRAMES),
         1,
         u64::from(FRAME_LIMIT),
     )?;
-    let bridges = tables(&fields, Key::Bridge)?;
-    let switches = tables(&fields, Key::Switch)?;
-    let endpoints = tables(&fields, Key::Endpoint)?;
+    let bridges = tables(fields, Key::Bridge)?;
+    let switches = tables(fields, Key::Switch)?;
+    let endpoints = tables(fields, Key::Endpoint)?;
     Ok(Top {
         frames: frames as u32,
         bridges,
@@ -140,6 +147,22 @@ fn add_bridge_of(nodes: &mut Vec<Node>, index: u32, value: &Value) -> Result<(),
         Ok(node) => Ok(nodes.push(node)?),
         Err(wrong) => Err(wrong.at(Section::Bridge, index)),
     }
+}
+
+/// The switches, and after them the endpoints.
+fn read_groups(
+    alloc: Global,
+    switches: &[Value],
+    endpoints: &[Value],
+) -> Result<Vec<Draft>, TopoFault>
+    requires switches { IsTrue (are_tables (items_view switches.now)) }
+    requires endpoints { IsTrue (are_tables (items_view endpoints.now)) }
+    ensures { Reads (λ drafts. drafts.items) result (drafts_of (items_view switches.now) (items_view endpoints.now)) }
+{
+    let mut drafts = read_drafts(alloc, Group::Switches, switches)?;
+    let last = read_drafts(alloc, Group::Endpoints, endpoints)?;
+    drafts.extend_from_slice(&last)?;
+    Ok(drafts)
 }
 
 /// The switches or the endpoints of these tables.

@@ -1,11 +1,13 @@
 //! The values at the keys of a table.
 
 ghost use Rattle.std.specs.Prelude.{◌≡◌, ◌≤◌, None, IfOk, IsTrue};
+ghost use Rattle.std.specs.Bool.{OnTrue};
 ghost use Rattle.cxl_enc.specs.Caps.{is_decoder_count, is_target_count};
 ghost use Rattle.cxl_enc.specs.Name.{is_name};
 ghost use Rattle.toml.specs.Data.{as_integer, as_bool, as_str};
 ghost use Rattle.cxl_topofile.specs.Values.{value_at, number_at, natural, is_within, within, flag_at, stated_name, stated_decoders, stated_targets, Gives};
 ghost use Rattle.cxl_topofile.specs.inner.Fields.{members_of, AreFields};
+ghost use Rattle.cxl_topofile.specs.inner.Steps.{natural_at};
 
 use crate::fault::Wrong;
 use crate::fields::{Fields, found};
@@ -67,6 +69,15 @@ fn natural(key: Key, z: i64) -> Result<u64, Wrong>
     Ok(z as u64)
 }
 
+/// The natural number at a key.
+fn natural_at(fields: &Fields<'_>, key: Key, default: Option<i64>) -> Result<u64, Wrong>
+    requires { AreFields fields.now }
+    ensures { result ≡ natural_at (members_of fields.now) key default }
+{
+    let z = integer(fields, key, default)?;
+    natural(key, z)
+}
+
 fn within(key: Key, n: u64, low: u64, high: u64) -> Result<u64, Wrong>
     ensures within { result ≡ within key (is_within low high) n }
     ensures range { IfOk result (λ n. (low ≤ n) × (n ≤ high)) }
@@ -79,7 +90,6 @@ fn within(key: Key, n: u64, low: u64, high: u64) -> Result<u64, Wrong>
 }
 
 /// The integer at a key, from `low` to `high`.
-#[tactic(auto, unfolding(crate::specs::Values::number_at))]
 pub(crate) fn number(
     fields: &Fields<'_>,
     key: Key,
@@ -91,41 +101,46 @@ pub(crate) fn number(
     ensures number { result ≡ number_at (members_of fields.now) key default (is_within low high) }
     ensures range { IfOk result (λ n. (low ≤ n) × (n ≤ high)) }
 {
-    let z = integer(fields, key, default)?;
-    let n = natural(key, z)?;
+    let n = natural_at(fields, key, default)?;
     within(key, n, low, high)
 }
 
 /// The number of decoders.
-#[tactic(auto, unfolding(crate::specs::Values::number_at))]
 pub(crate) fn decoders(fields: &Fields<'_>) -> Result<u8, Wrong>
     requires { AreFields fields.now }
     ensures decoders { result ≡ stated_decoders (members_of fields.now) }
     ensures count { IfOk result (λ n. IsTrue (is_decoder_count n)) }
 {
-    let key = Key::Decoders;
-    let z = integer(fields, key, Some(4))?;
-    let n = natural(key, z)?;
-    if matches!(n, 1 | 2 | 4 | 6 | 8 | 10) {
-        Ok(n as u8)
-    } else {
-        Err(Wrong::out_of_range(key))
+    let n = natural_at(fields, Key::Decoders, Some(4))?;
+    if !is_decoder_count(n) {
+        return Err(Wrong::out_of_range(Key::Decoders));
     }
+    Ok(n as u8)
+}
+
+fn is_decoder_count(n: u64) -> bool
+    ensures value { result ≡ is_decoder_count n }
+    ensures few { OnTrue result (n ≤ 10) }
+{
+    matches!(n, 1 | 2 | 4 | 6 | 8 | 10)
 }
 
 /// The number of targets.
-#[tactic(auto, unfolding(crate::specs::Values::number_at))]
 pub(crate) fn targets(fields: &Fields<'_>) -> Result<u8, Wrong>
     requires { AreFields fields.now }
     ensures targets { result ≡ stated_targets (members_of fields.now) }
     ensures count { IfOk result (λ n. IsTrue (is_target_count n)) }
 {
-    let key = Key::Targets;
-    let z = integer(fields, key, Some(8))?;
-    let n = natural(key, z)?;
-    if matches!(n, 1 | 2 | 4 | 8) {
-        Ok(n as u8)
-    } else {
-        Err(Wrong::out_of_range(key))
+    let n = natural_at(fields, Key::Targets, Some(8))?;
+    if !is_target_count(n) {
+        return Err(Wrong::out_of_range(Key::Targets));
     }
+    Ok(n as u8)
+}
+
+fn is_target_count(n: u64) -> bool
+    ensures value { result ≡ is_target_count n }
+    ensures few { OnTrue result (n ≤ 8) }
+{
+    matches!(n, 1 | 2 | 4 | 8)
 }

@@ -1,5 +1,5 @@
 -- The values of a table by key, as one walk over it finds them.
-use Rattle.std.specs.Prelude.{◌≡◌, ℕ, List, [], ◌∷◌, Option, Some, None, option_map, get_or, find}
+use Rattle.std.specs.Prelude.{◌≡◌, ℕ, List, [], ◌∷◌, Option, Some, None, Ok, option_map, get_or, find}
 use Rattle.std.specs.Borrow.{Bor}
 use Rattle.std.specs.Str.{bytes_eq}
 use Rattle.toml.specs.Data.{Data, Members, get_member}
@@ -9,6 +9,7 @@ use Rattle.cxl_topofile.specs.declared.fields.Fields.{Fields}
 use Rattle.cxl_topofile.specs.declared.key.Key.{Key}
 use Rattle.cxl_topofile.specs.declared.key.Key.TheVariants as keys
 use Rattle.cxl_topofile.specs.Keys.{key_text}
+use Rattle.cxl_topofile.specs.Drafts.{known_in}
 
 -- every key
 abbrev pub all_keys : List Key
@@ -69,3 +70,9 @@ members_of fields = table_view fields.table.now
 -- its values stand in their slots
 abbrev pub AreFields : Fields → Type 0
 AreFields fields = HasFields fields.values (members_of fields)
+
+-- the fields of this table, which has no other keys than these
+pub record AreAllFields (fields : Fields) (table : Members) (keys : List Key) : Type 0 where
+  pub each : AreFields fields
+  pub known : known_in (members_of fields) keys ≡ Ok tt
+  pub same : members_of fields ≡ table
