@@ -2,4 +2,3 @@ pub mod Words
 pub mod Verbs
 pub mod Reading
 pub mod Grammar
-pub mod inner

@@ -1,13 +1,10 @@
 //! The verbs of a script.
 
-ghost use Rattle.std.specs.Prelude.{◌≡◌};
-ghost use Rattle.std.specs.List.{find};
-ghost use Rattle.std.specs.Str.{bytes_eq};
+ghost use Rattle.std.specs.Prelude.{◌≡◌, ◌≢◌, length};
 ghost use Rattle.cxl_script.specs.Verbs.{verb_of};
-ghost use Rattle.cxl_script.specs.inner.VerbTexts.{verb_text};
 
 /// The first word of a command.
-#[derive(Clone, Copy)]
+#[derive(Clone, Copy, PartialEq, Eq)]
 pub(crate) enum Verb {
     Create,
     Destroy,
@@ -26,63 +23,72 @@ pub(crate) enum Verb {
     Move,
 }
 
-/// Every verb.
-const VERBS: [Verb; 15] = [
-    Verb::Create,
-    Verb::Destroy,
-    Verb::Show,
-    Verb::Down,
-    Verb::Up,
-    Verb::Load,
-    Verb::Store,
-    Verb::Poison,
-    Verb::Begin,
-    Verb::Step,
-    Verb::Abort,
-    Verb::Range,
-    Verb::Spread,
-    Verb::Copy,
-    Verb::Move,
-];
-
-impl Verb {
-    /// The word that a script writes for it.
-    fn text(self) -> &'static str
-        ensures { result.now ≡ verb_text self }
-    {
-        match self {
-            Verb::Create => "create",
-            Verb::Destroy => "destroy",
-            Verb::Show => "show",
-            Verb::Down => "down",
-            Verb::Up => "up",
-            Verb::Load => "load",
-            Verb::Store => "store",
-            Verb::Poison => "poison",
-            Verb::Begin => "begin",
-            Verb::Step => "step",
-            Verb::Abort => "abort",
-            Verb::Range => "range",
-            Verb::Spread => "spread",
-            Verb::Copy => "copy",
-            Verb::Move => "move",
-        }
-    }
-}
-
 /// The verb that a word is.
 pub(crate) fn verb_of(word: &[u8]) -> Option<Verb>
     ensures { result ≡ verb_of word.now }
 {
-    first_verb(&VERBS, word)
+    // By the length first, since what is known of a word grows with each text that it was compared with.
+    match word.len() {
+        4 => verb_of_four(word),
+        5 => verb_of_five(word),
+        6 => verb_of_six(word),
+        _ => verb_of_other(word),
+    }
 }
 
-/// The first of these verbs that a script writes so.
-fn first_verb(verbs: &[Verb], word: &[u8]) -> Option<Verb>
-    ensures { result ≡ find (λ verb. bytes_eq word.now (verb_text verb)) verbs.now }
+/// The verb that a word of four letters is.
+fn verb_of_four(word: &[u8]) -> Option<Verb>
+    requires { length word.now ≡ 4 }
+    ensures { result ≡ verb_of word.now }
 {
-    verbs
-        .iter()
-        .copied()
-        .find(|verb| word == verb.text().as_bytes())
+    match word {
+        b"show" => Some(Verb::Show),
+        b"down" => Some(Verb::Down),
+        b"load" => Some(Verb::Load),
+        b"step" => Some(Verb::Step),
+        b"copy" => Some(Verb::Copy),
+        b"move" => Some(Verb::Move),
+        _ => None,
+    }
+}
+
+/// The verb that a word of five letters is.
+fn verb_of_five(word: &[u8]) -> Option<Verb>
+    requires { length word.now ≡ 5 }
+    ensures { result ≡ verb_of word.now }
+{
+    match word {
+        b"store" => Some(Verb::Store),
+        b"begin" => Some(Verb::Begin),
+        b"abort" => Some(Verb::Abort),
+        b"range" => Some(Verb::Range),
+        _ => None,
+    }
+}
+
+/// The verb that a word of six letters is.
+fn verb_of_six(word: &[u8]) -> Option<Verb>
+    requires { length word.now ≡ 6 }
+    ensures { result ≡ verb_of word.now }
+{
+    match word {
+        b"create" => Some(Verb::Create),
+        b"poison" => Some(Verb::Poison),
+        b"spread" => Some(Verb::Spread),
+        _ => None,
+    }
+}
+
+/// The verb that a word of another length is.
+fn verb_of_other(word: &[u8]) -> Option<Verb>
+    requires four { length word.now ≢ 4 }
+    requires five { length word.now ≢ 5 }
+    requires six { length word.now ≢ 6 }
+    ensures { result ≡ verb_of word.now }
+{
+    match word {
+        b"up" => Some(Verb::Up),
+        b"destroy" => Some(Verb::Destroy),
+        _ => None,
+    }
 }

@@ -21,28 +21,25 @@ use Rattle.cxl_topofile.specs.inner.Fields.{all_keys, first_key, key_of, slot_of
 
 -- ---- a slot is of one text
 
-own_key : (key : Key) → key_of (key_text key) ≡ Some key
-own_key keys.Frames = refl
-own_key keys.Bridge = refl
-own_key keys.Switch = refl
-own_key keys.Endpoint = refl
-own_key keys.Name = refl
-own_key keys.Uid = refl
-own_key keys.Parent = refl
-own_key keys.Port = refl
-own_key keys.Decoders = refl
-own_key keys.Targets = refl
-own_key keys.Low = refl
-own_key keys.High = refl
-own_key keys.Passthrough = refl
-own_key keys.Ways3 = refl
-own_key keys.Ways16 = refl
-own_key keys.Ram = refl
-own_key keys.Pmem = refl
-own_key keys.Unknown = refl
-
 own_slot : (key : Key) → slot_at (key_text key) ≡ slot_of key
-own_slot key = ap slot_by (own_key key)
+own_slot keys.Frames = refl
+own_slot keys.Bridge = refl
+own_slot keys.Switch = refl
+own_slot keys.Endpoint = refl
+own_slot keys.Name = refl
+own_slot keys.Uid = refl
+own_slot keys.Parent = refl
+own_slot keys.Port = refl
+own_slot keys.Decoders = refl
+own_slot keys.Targets = refl
+own_slot keys.Low = refl
+own_slot keys.High = refl
+own_slot keys.Passthrough = refl
+own_slot keys.Ways3 = refl
+own_slot keys.Ways16 = refl
+own_slot keys.Ram = refl
+own_slot keys.Pmem = refl
+own_slot keys.Unknown = refl
 
 -- the text of a slot
 abbrev text_in : ℕ → List ℕ → List ℕ

@@ -1,33 +1,11 @@
 //! The keys of a topology file.
 
-ghost use Rattle.std.specs.Prelude.{◌≡◌, ◌<◌};
+ghost use Rattle.std.specs.Prelude.{◌≡◌, ◌≢◌, ◌<◌, length};
 ghost use Rattle.cxl_topofile.specs.Keys.{key_text, shown_key};
-ghost use Rattle.cxl_topofile.specs.inner.Fields.{first_key, key_of, slot_of, slot_at};
+ghost use Rattle.cxl_topofile.specs.inner.Fields.{key_of, slot_of, slot_at};
 
 /// How many slots there are: one for each key, and the last one for every other text.
 pub(crate) const SLOTS: usize = 19;
-
-/// Every key.
-const KEYS: [Key; 18] = [
-    Key::Frames,
-    Key::Bridge,
-    Key::Switch,
-    Key::Endpoint,
-    Key::Name,
-    Key::Uid,
-    Key::Parent,
-    Key::Port,
-    Key::Decoders,
-    Key::Targets,
-    Key::Low,
-    Key::High,
-    Key::Passthrough,
-    Key::Ways3,
-    Key::Ways16,
-    Key::Ram,
-    Key::Pmem,
-    Key::Unknown,
-];
 
 /// A key of a topology file, or one that no table of it has.
 #[derive(Clone, Copy, PartialEq, Eq)]
@@ -95,7 +73,26 @@ impl Key {
         ensures slot { result ≡ slot_of self }
         ensures few { result < 18 }
     {
-        self as usize
+        match self {
+            Key::Frames => 0,
+            Key::Bridge => 1,
+            Key::Switch => 2,
+            Key::Endpoint => 3,
+            Key::Name => 4,
+            Key::Uid => 5,
+            Key::Parent => 6,
+            Key::Port => 7,
+            Key::Decoders => 8,
+            Key::Targets => 9,
+            Key::Low => 10,
+            Key::High => 11,
+            Key::Passthrough => 12,
+            Key::Ways3 => 13,
+            Key::Ways16 => 14,
+            Key::Ram => 15,
+            Key::Pmem => 16,
+            Key::Unknown => 17,
+        }
     }
 }
 
@@ -114,14 +111,83 @@ pub(crate) fn slot_at(text: &[u8]) -> usize
 fn key_of(text: &[u8]) -> Option<Key>
     ensures { result ≡ key_of text.now }
 {
-    first_key(&KEYS, text)
+    // By the length first, since what is known of a text grows with each key that it was compared with.
+    match text.len() {
+        3 => key_of_three(text),
+        4 => key_of_four(text),
+        6 => key_of_six(text),
+        8 => key_of_eight(text),
+        _ => key_of_other(text),
+    }
 }
 
-/// The first of these keys that a file writes so.
-fn first_key(keys: &[Key], text: &[u8]) -> Option<Key>
-    ensures { result ≡ first_key text.now keys.now }
+/// The key that three letters write.
+fn key_of_three(text: &[u8]) -> Option<Key>
+    requires { length text.now ≡ 3 }
+    ensures { result ≡ key_of text.now }
 {
-    keys.iter()
-        .copied()
-        .find(|key| text == key.text().as_bytes())
+    match text {
+        b"uid" => Some(Key::Uid),
+        b"low" => Some(Key::Low),
+        b"ram" => Some(Key::Ram),
+        _ => None,
+    }
+}
+
+/// The key that four letters write.
+fn key_of_four(text: &[u8]) -> Option<Key>
+    requires { length text.now ≡ 4 }
+    ensures { result ≡ key_of text.now }
+{
+    match text {
+        b"name" => Some(Key::Name),
+        b"port" => Some(Key::Port),
+        b"high" => Some(Key::High),
+        b"pmem" => Some(Key::Pmem),
+        _ => None,
+    }
+}
+
+/// The key that six letters write.
+fn key_of_six(text: &[u8]) -> Option<Key>
+    requires { length text.now ≡ 6 }
+    ensures { result ≡ key_of text.now }
+{
+    match text {
+        b"frames" => Some(Key::Frames),
+        b"bridge" => Some(Key::Bridge),
+        b"switch" => Some(Key::Switch),
+        b"parent" => Some(Key::Parent),
+        b"ways16" => Some(Key::Ways16),
+        _ => None,
+    }
+}
+
+/// The key that eight letters write.
+fn key_of_eight(text: &[u8]) -> Option<Key>
+    requires { length text.now ≡ 8 }
+    ensures { result ≡ key_of text.now }
+{
+    match text {
+        b"endpoint" => Some(Key::Endpoint),
+        b"decoders" => Some(Key::Decoders),
+        _ => None,
+    }
+}
+
+/// The key that a text of another length writes.
+fn key_of_other(text: &[u8]) -> Option<Key>
+    requires three { length text.now ≢ 3 }
+    requires four { length text.now ≢ 4 }
+    requires six { length text.now ≢ 6 }
+    requires eight { length text.now ≢ 8 }
+    ensures { result ≡ key_of text.now }
+{
+    match text {
+        b"targets" => Some(Key::Targets),
+        b"passthrough" => Some(Key::Passthrough),
+        b"ways3" => Some(Key::Ways3),
+        b"" => Some(Key::Unknown),
+        _ => None,
+    }
 }

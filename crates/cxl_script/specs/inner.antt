@@ -1,2 +1,0 @@
--- Definitions that only the inner calls and the proofs speak of.
-pub mod VerbTexts
