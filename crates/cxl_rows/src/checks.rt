@@ -49,10 +49,10 @@ pub(crate) fn are_checked(rt: &(impl Abort + AllocGlobal), rows: &[Row]) {
 /// 32 bytes further.
 #[test]
 fn images(rt: HostRuntime) {
-    are_checked(&rt, &IMAGES);
+    are_checked(&rt, IMAGES);
 }
 
-const IMAGES: [Row; 20] = [
+const IMAGES: &[Row] = &[
     Row {
         name: "the first region",
         table: TWO_BRIDGES,
@@ -167,7 +167,15 @@ const IMAGES: [Row; 20] = [
         code: 0,
         text: "region 0x100000000 size 0x20000000 window 0 gran 256 ways 1 ram\nslot 0 e0 0x0\n",
     },
-    // Each fault of an image file.
+];
+
+/// Each fault of an image file, and files that cannot be read.
+#[test]
+fn faulty_files(rt: HostRuntime) {
+    are_checked(&rt, FAULTY_FILES);
+}
+
+const FAULTY_FILES: &[Row] = &[
     Row {
         name: "an image that is cut",
         table: TWO_BRIDGES,

@@ -125,11 +125,11 @@ fn all_are_led(rt: &(impl Abort + AllocGlobal), rows: &[Row]) {
 }
 
 #[test]
-fn real_stores(rt: HostRuntime) {
-    all_are_led(&rt, &ROWS);
+fn stores_over_two_bridges_and_switches(rt: HostRuntime) {
+    all_are_led(&rt, TWO_BRIDGES_AND_SWITCHES);
 }
 
-const ROWS: [Row; 6] = [
+const TWO_BRIDGES_AND_SWITCHES: &[Row] = &[
     Row {
         name: "two bridges",
         table: real_hosts::X2_BRIDGES_TABLE,
@@ -144,6 +144,14 @@ const ROWS: [Row; 6] = [
         image: real_images::X4_SWITCHES,
         stores: stores::X4_SWITCHES_STORES,
     },
+];
+
+#[test]
+fn stores_over_two_windows_and_three_ways(rt: HostRuntime) {
+    all_are_led(&rt, TWO_WINDOWS_AND_THREE_WAYS);
+}
+
+const TWO_WINDOWS_AND_THREE_WAYS: &[Row] = &[
     Row {
         name: "two windows and eight ways",
         table: real_hosts::X8_TWO_WINDOWS_TABLE,
@@ -158,6 +166,14 @@ const ROWS: [Row; 6] = [
         image: real_images::X6_THREE_WAYS,
         stores: stores::X6_THREE_WAYS_STORES,
     },
+];
+
+#[test]
+fn stores_in_both_kinds_and_over_single_ports(rt: HostRuntime) {
+    all_are_led(&rt, BOTH_KINDS_AND_SINGLE_PORTS);
+}
+
+const BOTH_KINDS_AND_SINGLE_PORTS: &[Row] = &[
     Row {
         name: "ram and pmem on the same devices",
         table: real_hosts::RAM_AND_PMEM_TABLE,

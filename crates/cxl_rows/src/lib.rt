@@ -1,6 +1,6 @@
 //! Worked rows of the whole program, as tests of `run` over files and a sink in memory: each is the words of a
 //! command line with the exit status and the text that they must give. And scripts command by command, as calls of
-//! `Session::act`; where stores lead in real images; and the messages of errors.
+//! `Session::act`; a session that a program keeps; where stores lead in real images; and the messages of errors.
 #![tactic(auto)]
 
 #[cfg(test)]
@@ -13,6 +13,8 @@ mod counts;
 mod findings;
 #[cfg(test)]
 mod guest_stores;
+#[cfg(test)]
+mod held;
 #[cfg(test)]
 mod host_files;
 #[cfg(test)]

@@ -32,11 +32,11 @@ const LIST: &str = "list table";
 const NORMAL: &str = "normal table";
 
 #[test]
-fn lists(rt: HostRuntime) {
-    are_answered(&rt, LISTS);
+fn tables_of_two_bridges(rt: HostRuntime) {
+    are_answered(&rt, TABLES_OF_TWO_BRIDGES);
 }
 
-const LISTS: &[Row] = &[
+const TABLES_OF_TWO_BRIDGES: &[Row] = &[
     Row {
         name: "two bridges and a record of type 4",
         line: LIST,
@@ -71,7 +71,15 @@ const LISTS: &[Row] = &[
         code: 0,
         text: ONE_MAP,
     },
-    // The tables that other programs made.
+];
+
+/// The tables that other programs made.
+#[test]
+fn few_bridges_by_qemu(rt: HostRuntime) {
+    are_answered(&rt, FEW_BRIDGES_BY_QEMU);
+}
+
+const FEW_BRIDGES_BY_QEMU: &[Row] = &[
     Row {
         name: "by QEMU, two bridges",
         line: LIST,
@@ -88,6 +96,14 @@ const LISTS: &[Row] = &[
         code: 0,
         text: listings::QEMU_SWITCH,
     },
+];
+
+#[test]
+fn many_bridges_by_qemu(rt: HostRuntime) {
+    are_answered(&rt, MANY_BRIDGES_BY_QEMU);
+}
+
+const MANY_BRIDGES_BY_QEMU: &[Row] = &[
     Row {
         name: "by QEMU, three bridges",
         line: LIST,
@@ -112,6 +128,14 @@ const LISTS: &[Row] = &[
         code: 0,
         text: listings::QEMU_SAME_TARGET,
     },
+];
+
+#[test]
+fn tables_by_iasl(rt: HostRuntime) {
+    are_answered(&rt, TABLES_BY_IASL);
+}
+
+const TABLES_BY_IASL: &[Row] = &[
     Row {
         name: "by iasl, XOR arithmetic",
         line: LIST,
@@ -136,6 +160,14 @@ const LISTS: &[Row] = &[
         code: 0,
         text: listings::IASL_CXL_1_1,
     },
+];
+
+#[test]
+fn long_windows(rt: HostRuntime) {
+    are_answered(&rt, LONG_WINDOWS);
+}
+
+const LONG_WINDOWS: &[Row] = &[
     Row {
         name: "list, a window longer than its ways demand",
         line: LIST,
@@ -152,7 +184,15 @@ const LISTS: &[Row] = &[
         code: 3,
         text: listings::LONG_WINDOW,
     },
-    // Faults.
+];
+
+/// Tables with a fault.
+#[test]
+fn faulty_tables(rt: HostRuntime) {
+    are_answered(&rt, FAULTY_TABLES);
+}
+
+const FAULTY_TABLES: &[Row] = &[
     Row {
         name: "list, another sum",
         line: LIST,

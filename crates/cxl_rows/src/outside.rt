@@ -11,15 +11,15 @@ use cxl_shell::{HELP, Status};
 use std::alloc::Global;
 use std::process::Abort;
 
-#[test]
-fn outside(rt: HostRuntime) {
-    are_answered(&rt, OUTSIDE);
-}
-
 const USAGE: &str = "usage\n";
 
-const OUTSIDE: &[Row] = &[
-    // Words that are none of the forms, or whose address is no number.
+/// Words that are none of the forms, or whose address is no number.
+#[test]
+fn faulty_words_over_a_table(rt: HostRuntime) {
+    are_answered(&rt, FAULTY_WORDS_OVER_A_TABLE);
+}
+
+const FAULTY_WORDS_OVER_A_TABLE: &[Row] = &[
     Row {
         name: "an empty word",
         line: "",
@@ -124,6 +124,14 @@ const OUTSIDE: &[Row] = &[
         code: 1,
         text: USAGE,
     },
+];
+
+#[test]
+fn faulty_words_over_a_host(rt: HostRuntime) {
+    are_answered(&rt, FAULTY_WORDS_OVER_A_HOST);
+}
+
+const FAULTY_WORDS_OVER_A_HOST: &[Row] = &[
     Row {
         name: "check alone",
         line: "check",
@@ -204,7 +212,15 @@ const OUTSIDE: &[Row] = &[
         code: 1,
         text: USAGE,
     },
-    // Generated systems.
+];
+
+/// Generated systems.
+#[test]
+fn generated_systems(rt: HostRuntime) {
+    are_answered(&rt, GENERATED_SYSTEMS);
+}
+
+const GENERATED_SYSTEMS: &[Row] = &[
     Row {
         name: "gen, 1",
         line: "gen 1",
@@ -221,6 +237,14 @@ const OUTSIDE: &[Row] = &[
         code: 0,
         text: "gen 32 regions 32 stores 32000 loads 32000 unmapped 0 sum 4037760 checked 32\n",
     },
+];
+
+#[test]
+fn help_and_version(rt: HostRuntime) {
+    are_answered(&rt, HELP_AND_VERSION);
+}
+
+const HELP_AND_VERSION: &[Row] = &[
     Row {
         name: "help with a word too many",
         line: "--help route",
@@ -254,6 +278,14 @@ const OUTSIDE: &[Row] = &[
         code: 0,
         text: "cxlplan 1.0.0\n",
     },
+];
+
+#[test]
+fn absent_and_large_files(rt: HostRuntime) {
+    are_answered(&rt, ABSENT_AND_LARGE_FILES);
+}
+
+const ABSENT_AND_LARGE_FILES: &[Row] = &[
     Row {
         name: "a file that is not there",
         line: "route missing.cedt 0x100000000",

@@ -131,14 +131,13 @@ fn are_planned(rt: &(impl Abort + AllocGlobal), rows: &[Row]) {
     }
 }
 
-/// Plans and refusals of named endpoints.
+/// Plans of named endpoints, over hosts after reset.
 #[test]
 fn named_endpoints(rt: HostRuntime) {
     are_planned(&rt, NAMED);
 }
 
 const NAMED: &[Row] = &[
-    // Plans over hosts after reset.
     Row {
         name: "two ways below bridges that decode",
         table: TWO_BRIDGES,
@@ -171,7 +170,15 @@ const NAMED: &[Row] = &[
         code: 0,
         text: PMEM_PLAN,
     },
-    // Names that are no endpoint's, and the faults of requests.
+];
+
+/// Names that are no endpoint's, and the faults of requests.
+#[test]
+fn endpoints_without_a_plan(rt: HostRuntime) {
+    are_planned(&rt, WITHOUT_A_PLAN);
+}
+
+const WITHOUT_A_PLAN: &[Row] = &[
     Row {
         name: "a name that is no endpoint's",
         table: TWO_BRIDGES,
@@ -228,7 +235,15 @@ const NAMED: &[Row] = &[
         code: 8,
         text: "refused span e0 no-room 0x40000000 0x80000000\n",
     },
-    // Why windows take no region.
+];
+
+/// Why windows take no region.
+#[test]
+fn windows_without_a_plan(rt: HostRuntime) {
+    are_planned(&rt, WINDOWS_WITHOUT_A_PLAN);
+}
+
+const WINDOWS_WITHOUT_A_PLAN: &[Row] = &[
     Row {
         name: "two endpoints below one bridge of two",
         table: SERVER,
@@ -286,7 +301,6 @@ fn picked_endpoints(rt: HostRuntime) {
 }
 
 const PICKED: &[Row] = &[
-    // Plans.
     Row {
         name: "four ways",
         table: SERVER,

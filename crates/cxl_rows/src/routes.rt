@@ -9,7 +9,7 @@ use std::process::Abort;
 
 const FIRST: &str = "route table 0x100000000";
 
-/// Addresses of tables, and faults of tables.
+/// Addresses of tables.
 #[test]
 fn routes(rt: HostRuntime) {
     are_answered(&rt, ROUTES);
@@ -90,8 +90,15 @@ const ROUTES: &[Row] = &[
         code: 0,
         text: "window 1 position 0 bridge 0\n",
     },
-    // Each fault of the two-bridge table, made by a few bytes: the second of them keeps the sum, which stands at
-    // byte 9.
+];
+
+/// Each fault of the two-bridge table, made by a few bytes: the second of them keeps the sum, which stands at byte 9.
+#[test]
+fn faults_before_a_route(rt: HostRuntime) {
+    are_answered(&rt, FAULTS_BEFORE_A_ROUTE);
+}
+
+const FAULTS_BEFORE_A_ROUTE: &[Row] = &[
     Row {
         name: "another signature",
         line: FIRST,

@@ -5,11 +5,11 @@ use crate::scripts::{Script, come_to};
 use crate::tables::{SERVER, TWO_BRIDGES};
 
 #[test]
-fn bytes_by_host(rt: HostRuntime) {
-    come_to(&rt, &BYTES_BY_HOST);
+fn bytes_of_regions(rt: HostRuntime) {
+    come_to(&rt, BYTES_OF_REGIONS);
 }
 
-const BYTES_BY_HOST: [Script; 9] = [
+const BYTES_OF_REGIONS: &[Script] = &[
     Script {
         name: "bytes over two devices",
         table: TWO_BRIDGES,
@@ -131,6 +131,14 @@ destroyed r0\n\
 created r0 window 0 base 0x1000000000 size 0x10000000000 gran 256 ways 4\n\
 bytes 00\n",
     },
+];
+
+#[test]
+fn ranges_and_moves(rt: HostRuntime) {
+    come_to(&rt, RANGES_AND_MOVES);
+}
+
+const RANGES_AND_MOVES: &[Script] = &[
     Script {
         name: "ranges and spreads",
         table: SERVER,

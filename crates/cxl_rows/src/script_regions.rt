@@ -8,10 +8,10 @@ use crate::tables::{ONE_BRIDGE, SERVER, TWO_BRIDGES};
 
 #[test]
 fn made_and_ended(rt: HostRuntime) {
-    come_to(&rt, &REGIONS);
+    come_to(&rt, MADE_AND_ENDED);
 }
 
-const REGIONS: [Script; 9] = [
+const MADE_AND_ENDED: &[Script] = &[
     Script {
         name: "both kinds of memory in one endpoint",
         table: ONE_BRIDGE,
@@ -102,6 +102,14 @@ create abcdefghijklmnop ram 0x20000000 e0 e1\n",
 created abcdefghijklmno window 0 base 0x100000000 size 0x20000000 gran 256 ways 2\n\
 bad line 7 name\n",
     },
+];
+
+#[test]
+fn lines_that_make_regions(rt: HostRuntime) {
+    come_to(&rt, LINES_THAT_MAKE_REGIONS);
+}
+
+const LINES_THAT_MAKE_REGIONS: &[Script] = &[
     Script {
         name: "a name twice, and names of no endpoint",
         table: TWO_BRIDGES,

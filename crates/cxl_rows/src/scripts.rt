@@ -90,11 +90,11 @@ pub(crate) fn come_to(rt: &(impl Abort + AllocGlobal), scripts: &[Script]) {
 }
 
 #[test]
-fn ways(rt: HostRuntime) {
-    come_to(&rt, &WAYS);
+fn three_six_and_twelve_ways(rt: HostRuntime) {
+    come_to(&rt, THREE_SIX_AND_TWELVE_WAYS);
 }
 
-const WAYS: [Script; 8] = [
+const THREE_SIX_AND_TWELVE_WAYS: &[Script] = &[
     Script {
         name: "three ways",
         table: THREE_BRIDGES_SMALL,
@@ -142,6 +142,14 @@ down 0x100000b00\n",
 created t window 0 base 0x100000000 size 0xc0000000 gran 256 ways 12\n\
 down 0x100000b00 region t slot 11 position 5 via hb5:0:1 endpoint e11 dpa 0x0\n",
     },
+];
+
+#[test]
+fn ways_by_xor(rt: HostRuntime) {
+    come_to(&rt, WAYS_BY_XOR);
+}
+
+const WAYS_BY_XOR: &[Script] = &[
     Script {
         name: "two ways by XOR",
         table: TWO_BRIDGES_XOR,
@@ -174,6 +182,14 @@ down 0x100004200\n",
 created t window 0 base 0x100000000 size 0x60000000 gran 256 ways 6\n\
 down 0x100004200 region t slot 1 position 1 via hb1:0:0 endpoint e1 dpa 0xb00\n",
     },
+];
+
+#[test]
+fn ways_below_ports(rt: HostRuntime) {
+    come_to(&rt, WAYS_BELOW_PORTS);
+}
+
+const WAYS_BELOW_PORTS: &[Script] = &[
     Script {
         name: "sixteen ways below five levels of ports",
         table: ONE_BRIDGE,

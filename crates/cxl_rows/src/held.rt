@@ -1,66 +1,22 @@
-//! A session that is kept, from its opening on.
+//! A session that a program keeps: how it opens, what its lines are answered, which words they sent, and its image.
 
+use crate::host_files::TWO_ENDPOINTS;
+use crate::rows::{ROOM, bytes, files_of, sink_of};
+use crate::tables::TWO_BRIDGES;
 use cxl_held::Held;
 use cxl_io::{MemFetch, MemSink, MemSource};
 use std::alloc::Global;
 use std::process::Abort;
 
-/// Two bridges, and a window of two ways over them, in chunks of 256 bytes.
-const TABLE: [u8; 144] = [
-    0x43, 0x45, 0x44, 0x54, 0x90, 0x00, 0x00, 0x00, 0x01, 0xca, 0x00, 0x00, 0x00, 0x00, 0x00, 0x00,
-    0x00, 0x00, 0x00, 0x00, 0x00, 0x00, 0x00, 0x00, 0x00, 0x00, 0x00, 0x00, 0x00, 0x00, 0x00, 0x00,
-    0x00, 0x00, 0x00, 0x00, 0x00, 0x00, 0x20, 0x00, 0x00, 0x00, 0x00, 0x00, 0x01, 0x00, 0x00, 0x00,
-    0x00, 0x00, 0x00, 0x00, 0x00, 0x00, 0x00, 0x80, 0x00, 0x00, 0x00, 0x00, 0x00, 0x00, 0x01, 0x00,
-    0x00, 0x00, 0x00, 0x00, 0x00, 0x00, 0x20, 0x00, 0x01, 0x00, 0x00, 0x00, 0x01, 0x00, 0x00, 0x00,
-    0x00, 0x00, 0x00, 0x00, 0x00, 0x00, 0x01, 0x80, 0x00, 0x00, 0x00, 0x00, 0x00, 0x00, 0x01, 0x00,
-    0x00, 0x00, 0x00, 0x00, 0x01, 0x00, 0x2c, 0x00, 0x00, 0x00, 0x00, 0x00, 0x00, 0x00, 0x00, 0x00,
-    0x01, 0x00, 0x00, 0x00, 0x00, 0x00, 0x00, 0x00, 0x01, 0x00, 0x00, 0x00, 0x01, 0x00, 0x00, 0x00,
-    0x00, 0x00, 0x00, 0x00, 0x0e, 0x00, 0x00, 0x00, 0x00, 0x00, 0x00, 0x00, 0x01, 0x00, 0x00, 0x00,
-];
-
-/// An endpoint of 2 GiB below each bridge.
-const TOPOLOGY: &[u8] = b"
-[[bridge]]
-name = \"hb0\"
-uid = 0
-[[bridge]]
-name = \"hb1\"
-uid = 1
-[[endpoint]]
-name = \"e0\"
-parent = \"hb0\"
-port = 0
-ram = 0x80000000
-[[endpoint]]
-name = \"e1\"
-parent = \"hb1\"
-port = 0
-ram = 0x80000000
-";
-
-fn put(
-    rt: &impl Abort,
-    alloc: Global,
-    files: &mut Vec<(String, Vec<u8>)>,
-    name: &str,
-    bytes: &[u8],
-) {
-    let name = String::from_str(alloc, name).expect(rt, "memory");
-    let bytes = Vec::from_slice(alloc, bytes).expect(rt, "memory");
-    files.push((name, bytes)).expect(rt, "memory");
-}
-
-/// The table, the topology, and an image of these bytes.
+/// Two bridges with an endpoint each, and an image of these bytes.
 fn files(rt: &impl Abort, alloc: Global, image: &[u8]) -> MemFetch {
-    let mut files = Vec::new(alloc);
-    put(rt, alloc, &mut files, "cedt", &TABLE);
-    put(rt, alloc, &mut files, "topo", TOPOLOGY);
-    put(rt, alloc, &mut files, "image", image);
-    MemFetch::new(files, Vec::new(alloc))
+    let table = bytes(rt, alloc, TWO_BRIDGES);
+    let image = Vec::from_slice(alloc, image).expect(rt, "memory");
+    files_of(rt, alloc, table, TWO_ENDPOINTS, image, 0)
 }
 
 fn sink(rt: &impl Abort, alloc: Global) -> MemSink {
-    MemSink::new(alloc, 4096, Vec::new(alloc)).expect(rt, "memory")
+    sink_of(rt, alloc, ROOM, 0)
 }
 
 fn lines(rt: &impl Abort, alloc: Global, text: &str) -> MemSource {
@@ -84,7 +40,7 @@ fn a_session_is_kept(rt: HostRuntime) {
     let alloc = rt.alloc();
     let mut out = sink(&rt, alloc);
     let mut files = files(&rt, alloc, b"");
-    let opened = Held::open_from_reset(alloc, "cedt", "topo", &mut files, &mut out);
+    let opened = Held::open_from_reset(alloc, "table", "topology", &mut files, &mut out);
     let Ok(mut held) = opened else {
         assert!(rt; false, "it opens");
         return;
@@ -123,7 +79,7 @@ fn lines_are_passed(rt: HostRuntime) {
     let alloc = rt.alloc();
     let mut out = sink(&rt, alloc);
     let mut files = files(&rt, alloc, b"");
-    let opened = Held::open_from_reset(alloc, "cedt", "topo", &mut files, &mut out);
+    let opened = Held::open_from_reset(alloc, "table", "topology", &mut files, &mut out);
     let Ok(held) = opened else {
         assert!(rt; false, "it opens");
         return;
@@ -148,7 +104,7 @@ fn lines_are_passed(rt: HostRuntime) {
 fn opens_again(rt: &impl Abort, alloc: Global, image: &[u8]) {
     let mut out = sink(rt, alloc);
     let mut files = files(rt, alloc, image);
-    let opened = Held::open_from_image(alloc, "cedt", "topo", "image", &mut files, &mut out);
+    let opened = Held::open_from_image(alloc, "table", "topology", "image", &mut files, &mut out);
     let Ok(mut held) = opened else {
         assert!(rt; false, "it opens on an image");
         return;
@@ -165,9 +121,9 @@ fn opens_again(rt: &impl Abort, alloc: Global, image: &[u8]) {
 
 /// The image with a granularity code of the first endpoint's decoder that is not the window's.
 fn broken(rt: &impl Abort, alloc: Global, image: &[u8]) -> Vec<u8> {
-    let mut bytes = Vec::from_slice(alloc, image).expect(rt, "memory");
-    *bytes.get_mut(332).expect(rt, "a control word") = 0x11;
-    bytes
+    let mut changed = Vec::from_slice(alloc, image).expect(rt, "memory");
+    *changed.get_mut(332).expect(rt, "a control word") = 0x11;
+    changed
 }
 
 #[test]
@@ -175,7 +131,7 @@ fn a_breach_is_told(rt: HostRuntime) {
     let alloc = rt.alloc();
     let mut out = sink(&rt, alloc);
     let mut reset = files(&rt, alloc, b"");
-    let opened = Held::open_from_reset(alloc, "cedt", "topo", &mut reset, &mut out);
+    let opened = Held::open_from_reset(alloc, "table", "topology", &mut reset, &mut out);
     let Ok(mut held) = opened else {
         assert!(rt; false, "it opens");
         return;
@@ -185,7 +141,7 @@ fn a_breach_is_told(rt: HostRuntime) {
     let image = held.image(alloc).expect(&rt, "memory");
     let mut files = files(&rt, alloc, &broken(&rt, alloc, &image));
     let mut out = sink(&rt, alloc);
-    match Held::open_from_image(alloc, "cedt", "topo", "image", &mut files, &mut out) {
+    match Held::open_from_image(alloc, "table", "topology", "image", &mut files, &mut out) {
         Ok(_) => assert!(rt; false, "the image has a breach"),
         Err(status) => assert!(rt; status.code() == 8, "status"),
     }
@@ -200,7 +156,7 @@ fn lines_that_fail_are_not_passed(rt: HostRuntime) {
     let alloc = rt.alloc();
     let mut out = sink(&rt, alloc);
     let mut files = files(&rt, alloc, b"");
-    let opened = Held::open_from_reset(alloc, "cedt", "topo", &mut files, &mut out);
+    let opened = Held::open_from_reset(alloc, "table", "topology", &mut files, &mut out);
     let Ok(held) = opened else {
         assert!(rt; false, "it opens");
         return;
@@ -218,7 +174,7 @@ fn a_faulty_table_is_told(rt: HostRuntime) {
     let alloc = rt.alloc();
     let mut out = sink(&rt, alloc);
     let mut files = MemFetch::new(Vec::new(alloc), Vec::new(alloc));
-    match Held::open_from_reset(alloc, "cedt", "topo", &mut files, &mut out) {
+    match Held::open_from_reset(alloc, "table", "topology", &mut files, &mut out) {
         Ok(_) => assert!(rt; false, "there is no table"),
         Err(status) => assert!(rt; status.code() == 2, "status"),
     }
