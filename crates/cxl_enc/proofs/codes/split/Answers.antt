@@ -1,3 +1,4 @@
+use Rattle.std.proofs.Common.{rules}
 use Rattle.cxl_enc.proofs.Tables.{factored}
 use Rattle.cxl_enc.proofs.codes.split.Goals as goal
 
@@ -6,3 +7,6 @@ returns-then-ways-eq0-clause-product c = (factored c.args.ways c.requires).produ
 
 pub returns-clause-product : goal.returns-clause-product
 returns-clause-product c = (factored c.args.ways c.requires).product
+
+pub returns-then-ways-eq0-clause-bits : goal.returns-then-ways-eq0-clause-bits
+returns-then-ways-eq0-clause-bits c = search rules

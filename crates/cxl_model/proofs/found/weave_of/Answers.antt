@@ -1,4 +1,5 @@
 use Rattle.std.proofs.Common.{◌≡◌, ℕ, ◌+◌, ◌-◌, true, sym, ap, ◌∙◌, subst, arith}
+use Rattle.std.proofs.lemmas.Grind.{common_steps}
 use Rattle.std.specs.Prelude.{IsTrue}
 use Rattle.cxl_enc.specs.Codes.{is_ways, third_of, bits_of}
 use Rattle.cxl_num.specs.Maps.{are_usable_maps}
@@ -68,3 +69,6 @@ new-requires-clause-maps_usable c = λ xor.
     let one = usable_front w.gran (bits_of w.ways) c.split-root.result.bits w.maps c.maps-maps.result.now root c.maps-maps.ensures.value c.maps-maps.ensures.four of_window in
     let other = usable_front found.gran (bits_of w.ways) c.split-root.result.bits w.maps c.maps-maps.result.now root c.maps-maps.ensures.value c.maps-maps.ensures.four of_region in
     cc (one, other)
+
+pub returns : goal.returns
+returns c = grind (arith, common_steps)

@@ -1,4 +1,5 @@
 use Rattle.std.proofs.Common.{◌≡◌, ℕ, ◌*◌, ◌<◌, ◌≤◌, ap, ◌∙◌, arith}
+use Rattle.std.proofs.lemmas.Grind.{common_steps}
 use Rattle.std.proofs.Math.Nat.{mul-le-mul_right}
 use Rattle.std.proofs.lemmas.Nat.{mul-le}
 use Rattle.cxl_num.specs.Interleave.{chunk_size}
@@ -35,3 +36,6 @@ returns c =
     let all : c.loop-slot.slot ≡ weave_ways v = omega (arith, ways, end, c.loop-slot-test.false) in
     turns_counted v laws c.args.turns c.loop-slot.counts inv.sixteen (λ k below. inv.dealt k (omega (arith, all, below)) ∙ ap (λ (x : ℕ). c.args.turns * x) c.chunk_bytes.ensures.value)
     (λ k from below. inv.past k (omega (arith, all, from)) below)
+
+pub loop-slot-preserved : goal.loop-slot-preserved
+loop-slot-preserved c = grind (arith, common_steps)

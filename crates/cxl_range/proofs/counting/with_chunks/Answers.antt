@@ -1,4 +1,4 @@
-use Rattle.std.proofs.Common.{◌≡◌, ℕ, ◌+◌, ◌-◌, ◌%◌, ◌<◌, ◌≤◌, min, refl, ap, ◌∙◌, arith}
+use Rattle.std.proofs.Common.{◌≡◌, ℕ, ◌+◌, ◌-◌, ◌%◌, ◌<◌, ◌≤◌, min, refl, ap, ◌∙◌, arith, rules}
 use Rattle.std.specs.Prelude.{slice_index, slice_set}
 use Rattle.std.proofs.Math.Nat.{mod-lt}
 use Rattle.cxl_num.specs.Interleave.{chunk_size}
@@ -39,3 +39,6 @@ loop-at-preserved c =
       are = next_chunk v (λ h d. c.chunks_deal_whole.ensures.slot v h d c.base.ensures.weave) c.loop-at.at c.min-len.result slot c.loop-at.counts
           (slice_set c.loop-at.counts slot (slice_index c.loop-at.counts slot + c.min-len.result)) inv.from fits c.deal.ensures.slot few inv.are refl;
     }
+
+pub returns : goal.returns
+returns c = search rules

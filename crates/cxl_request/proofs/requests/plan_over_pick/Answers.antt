@@ -1,3 +1,4 @@
+use Rattle.std.proofs.Common.{rules}
 use Rattle.cxl_request.proofs.requests.plan_over_pick.Goals as goal
 
 pub pick-requires-clause-made : goal.pick-requires-clause-made
@@ -14,3 +15,9 @@ plan_over-requires-clause-accepted c = c.requires.accepted
 
 pub plan_over-requires-clause-named : goal.plan_over-requires-clause-named
 plan_over-requires-clause-named c = c.in-Ok.ensures.endpoints
+
+pub returns-in-Ok : goal.returns-in-Ok
+returns-in-Ok c = search rules
+
+pub returns-in_ok-refusal_of_pick-in-Err : goal.returns-in_ok-refusal_of_pick-in-Err
+returns-in_ok-refusal_of_pick-in-Err c = search rules

@@ -1,5 +1,5 @@
 -- The first of the frames given back is taken, zeroed, and one is made where there is none.
-use Rattle.std.proofs.Common.{◌≡◌, ℕ, ◌<◌, ◌-◌, length, ap, ◌∙◌, Some, set, subst, arith}
+use Rattle.std.proofs.Common.{◌≡◌, ℕ, ◌<◌, ◌-◌, length, ap, ◌∙◌, Some, set, subst, arith, rules}
 use Rattle.cxl_pool.specs.Pool.{Frames, IsFree}
 use Rattle.cxl_pool.specs.Inside.{pool_of}
 use Rattle.cxl_pool.proofs.Steps.{take_pool, take_free, take_frames, take_within}
@@ -52,3 +52,6 @@ returns-clause-taken c =
     (take_frames c.self.inside.frames.items c.self.inside.given c.self.inside.first c.next-after.result c.zero.new.bytes c.index.result.now c.if-self-eq0.false c.index.ensures c.next-after.ensures c.self.invariant.made)
     ∙ ap (λ pool. set pool c.self.inside.first (Some c.zero.new.bytes)) c.self.view_is
     ∙ ap (λ w. set c.args.self.now c.self.inside.first (Some w)) c.zero.ensures
+
+pub returns-then-len-self-clause-none : goal.returns-then-len-self-clause-none
+returns-then-len-self-clause-none c = search rules
