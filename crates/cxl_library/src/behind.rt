@@ -1,6 +1,6 @@
 //! A session over the caller's files, told of behind a script: the words that its last line sent, and its image.
 
-ghost use Rattle.std.specs.Prelude.{◌≡◌, None, Some, [], List, IfOk};
+ghost use Rattle.std.specs.Prelude.{◌≡◌, None, Some, [], List, IfOk, OnOk};
 ghost use Rattle.cxl_held.specs.Sessions.{IsKept, IsHeldAt};
 ghost use Rattle.cxl_io.specs.Lines.{lines_of};
 ghost use Rattle.cxl_machine.specs.Machine.{Machine};
@@ -141,13 +141,25 @@ fn behind_last(alloc: Global, held: Held, line: &[u8]) -> Result<Held, Memory>
         × (after.regs.trail ≡ words_sent turns) × (failed_in turns ≡ [])) }
 {
     let mut after = held;
+    carry_out_last(alloc, &mut after, line)?;
+    Ok(after)
+}
+
+/// Carries out the last line of a session.
+fn carry_out_last(alloc: Global, held: &mut Held, line: &[u8]) -> Result<(), Memory>
+    requires kept { IsKept held.old }
+    ensures kept { OnOk result (IsKept held.new) }
+    ensures answered { OnOk result ((m : Machine) → IsHeldAt held.old m → (turns : List Turn)
+        × AreTurns m (lines_asked (lines_of line.now)) turns × IsHeldAt held.new (machine_after m turns)
+        × (held.new.regs.trail ≡ words_sent turns) × (failed_in turns ≡ [])) }
+{
     let mut source = SliceSource::new(line);
-    let status = after.act(alloc, &mut source, &mut Unheard);
-    if after.words().len() >= ROOM {
+    let status = held.act(alloc, &mut source, &mut Unheard);
+    if held.words().len() >= ROOM {
         return Err(Memory);
     }
     match status {
-        Status::Done => Ok(after),
+        Status::Done => Ok(()),
         _ => Err(Memory),
     }
 }

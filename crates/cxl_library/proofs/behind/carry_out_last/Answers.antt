@@ -4,7 +4,7 @@ use Rattle.cxl_io.specs.Lines.{lines_of}
 use Rattle.cxl_machine.specs.Scripts.{Asked, lines_asked}
 use Rattle.cxl_machine.specs.Turns.{AreTurns, machine_after, failed_in}
 use Rattle.cxl_library.proofs.Telling.{all_asked, some_same, none_failed}
-use Rattle.cxl_library.proofs.behind.behind_last.Goals as goal
+use Rattle.cxl_library.proofs.behind.carry_out_last.Goals as goal
 
 pub returns-in-Done-clause-kept : goal.returns-in-Done-clause-kept
 returns-in-Done-clause-kept c =
