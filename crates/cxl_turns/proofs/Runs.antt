@@ -1,6 +1,5 @@
 -- The lines of a script that were carried out so far, one more of them, and how they end.
 use Rattle.std.proofs.Common.{◌≡◌, ◌≢◌, ℕ, ◌<◌, ◌≤◌, ◌⊎◌, None, Result, Ok, Err, List, [], ◌∷◌, ◌++◌, length, take, refl, sym, ap, subst, ◌∙◌, inl, inr, arith, true, if◌then◌else◌}
-use Rattle.std.specs.Prelude.{OnOk}
 use Rattle.std.proofs.lemmas.Bool.{lt-ltb}
 use Rattle.std.proofs.lemmas.List.{append-nil}
 use Rattle.cxl_enc.specs.Faults.{Rose, LeavesCount, CountsExactly}
@@ -33,7 +32,7 @@ use Rattle.cxl_turns.specs.declared.stops.LineStop.{LineStop}
 use Rattle.cxl_turns.specs.declared.stops.LineStop.TheVariants as stops
 use Rattle.cxl_turns.specs.Going.{HasGoneOn}
 use Rattle.cxl_turns.specs.Endings.{StopsReading, IsCutBehind, EndsLines, read_out, reply_cut, runs_out}
-use Rattle.cxl_turns.specs.inner.CarriedOut.{IsAnswered, IsCutOff, IsLeft}
+use Rattle.cxl_turns.specs.inner.CarriedOut.{IsAnswered, IsCutOff, IsLeft, IsCarriedOut}
 use Rattle.cxl_turns.proofs.FirstLines.{GoesOnOrEnds, first_lines, first_but_last, no_first_lines, goes_on_or_ends, fault_rose, fault_going}
 use Rattle.cxl_turns.proofs.Going.{nodes_after, text_both, gone_same, gone_still, gone_both}
 use Rattle.cxl_turns.proofs.CarriedOut.{answered_none, takes_none}
@@ -218,9 +217,7 @@ module _ (reader next : Reader) (start now later : Stage) (run : HaveRun reader 
 pub record Took (passed : List (List ℕ)) (next : Reader) (start now later : Stage) (result : Result (Unit {0}) LineStop) : Type 0 where
   pub asked : List Asked
   pub one : ReadsOne passed next start.script later.script asked
-  pub answered : OnOk result (EachFrom now (λ m. IsAnswered m asked later.session now.regs later.regs later.media now.sink later.sink))
-  pub cut : result ≡ Err stops.Sink → EachFrom now (λ m. IsCutOff m asked later.session now.regs later.regs later.media now.sink later.sink)
-  pub left : result ≡ Err stops.Memory → EachFrom now (λ m. IsLeft m later.session now.regs later.regs later.media now.sink later.sink)
+  pub carried : EachFrom now (λ m. IsCarriedOut m asked later.session now.regs later.regs later.media now.sink later.sink result)
   pub source : now.script.faults ≤ later.script.faults
   pub sink : now.sink.faults ≤ later.sink.faults
   pub bus : now.regs.faults ≤ later.regs.faults
@@ -239,9 +236,7 @@ took_so passed next start now script session session' regs regs' media media' si
 
 -- what `carry_out_line` and `tell_bad_line` say of one
 pub record Carries (now : Stage) (session : SessionState) (regs : RegsState) (media : MediaState) (told : SinkState) (asked : List Asked) (result : Result (Unit {0}) LineStop) : Type 0 where
-  pub answered : OnOk result (EachFrom now (λ m. IsAnswered m asked session now.regs regs media now.sink told))
-  pub cut : result ≡ Err stops.Sink → EachFrom now (λ m. IsCutOff m asked session now.regs regs media now.sink told)
-  pub left : result ≡ Err stops.Memory → EachFrom now (λ m. IsLeft m session now.regs regs media now.sink told)
+  pub carried : EachFrom now (λ m. IsCarriedOut m asked session now.regs regs media now.sink told result)
   pub sink : now.sink.faults ≤ told.faults
   pub bus : now.regs.faults ≤ regs.faults
 
@@ -251,33 +246,26 @@ pub took_one : (passed : List (List ℕ)) (next : Reader) (start now : Stage) (s
 took_one passed next start now script session regs media sink asked result one source carries = record {
   asked = asked;
   one = one;
-  answered = carries.answered;
-  cut = carries.cut;
-  left = carries.left;
+  carried = carries.carried;
   source = source;
   sink = carries.sink;
   bus = carries.bus;
 }
 
-pub on_ok_so : (P Q : Type 0) (result : Result (Unit {0}) LineStop) → OnOk result P → (P → Q) → OnOk result Q
-on_ok_so P Q (Ok done) holds so = so holds
-on_ok_so P Q (Err stop) holds so = tt
-
-ok_of : (P : Type 0) (result : Result (Unit {0}) LineStop) (done : Unit {0}) → OnOk result P → result ≡ Ok done → P
-ok_of P (Ok done) other holds is = holds
-ok_of P (Err stop) other holds is = absurd (cc)
-
 module _ (reader next : Reader) (start now later : Stage) (result : Result (Unit {0}) LineStop) (run : HaveRun reader start now) (took : Took run.passed next start now later result) where
+  known : (other : Result (Unit {0}) LineStop) → result ≡ other → EachFrom now (λ m. IsCarriedOut m took.asked later.session now.regs later.regs later.media now.sink later.sink other)
+  known other is m at = subst (IsCarriedOut m took.asked later.session now.regs later.regs later.media now.sink later.sink) is (took.carried m at)
+
   pub took_more : (done : Unit {0}) → result ≡ Ok done → later.script.counts_failures_alone ≡ now.script.counts_failures_alone
       → LeavesCount now.script.counts_failures_alone now.script.faults later.script.faults → HaveRun next start later
   took_more done is alone left =
-      run_more reader next start now later run took.asked took.one took.source took.sink alone left took.bus (ok_of _ result done took.answered is)
+      run_more reader next start now later run took.asked took.one took.source took.sink alone left took.bus (known (Ok done) is)
 
   pub took_cut : result ≡ Err stops.Sink → End start later endings.WriteFault
-  took_cut is = run_cut reader next start now later run took.asked took.one took.source took.sink (took.cut is)
+  took_cut is = run_cut reader next start now later run took.asked took.one took.source took.sink (known (Err stops.Sink) is)
 
   pub took_left : result ≡ Err stops.Memory → LeavesCount now.script.counts_failures_alone now.script.faults later.script.faults → End start later endings.Memory
-  took_left is left = run_left reader next start now later run took.asked took.one took.source took.sink left (took.left is)
+  took_left is left = run_left reader next start now later run took.asked took.one took.source took.sink left (known (Err stops.Memory) is)
 
 -- ---- the end of reading
 

@@ -1,2 +1,3 @@
 pub mod CarriedOut
 pub mod Counted
+pub mod Written

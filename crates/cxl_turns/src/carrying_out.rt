@@ -1,18 +1,18 @@
 //! One line of a script, carried out.
 
-ghost use Rattle.std.specs.Prelude.{◌≡◌, ◌≤◌, ◌∷◌, [], Ok, Err, OnOk};
+ghost use Rattle.std.specs.Prelude.{◌≤◌, ◌∷◌, [], Ok, Err};
 ghost use Rattle.cxl_bus.specs.RegsState.{RegsState};
 ghost use Rattle.cxl_media.specs.MediaState.{MediaState};
 ghost use Rattle.cxl_script.specs.Grammar.{IsRanged};
 ghost use Rattle.cxl_machine.specs.Machine.{Machine};
 ghost use Rattle.cxl_machine.specs.Scripts.{lines_asked};
 ghost use Rattle.cxl_session.specs.Standing.{IsAt, Stands, ForEachMachine};
-ghost use Rattle.cxl_turns.specs.declared.stops.LineStop.TheVariants as stops;
-ghost use Rattle.cxl_turns.specs.inner.CarriedOut.{IsAnswered, IsCutOff, IsLeft};
+ghost use Rattle.cxl_turns.specs.inner.CarriedOut.{IsCarriedOut};
 
 use crate::replies::write_reply;
 use crate::stops::LineStop;
 use cxl_bus::Regs;
+use cxl_enc::Memory;
 use cxl_io::{Lines, Sink};
 use cxl_machine::answers_are_told;
 use cxl_media::Roll;
@@ -33,14 +33,9 @@ pub(crate) fn carry_out_line<K: Sink, R: Regs, M: Roll>(
     media: &mut M,
 ) -> Result<(), LineStop>
     requires { Stands session.old (R.state regs.old) (M.state media.old) }
-    ensures answered { OnOk result (ForEachMachine session.old (R.state regs.old) (M.state media.old) (λ m.
-        IsAnswered m (lines_asked (line.now ∷ [])) session.new (R.state regs.old) (R.state regs.new) (M.state media.new)
-        (K.state out.old) (K.state out.new))) }
-    ensures cut { result ≡ Err stops.Sink → ForEachMachine session.old (R.state regs.old) (M.state media.old) (λ m.
-        IsCutOff m (lines_asked (line.now ∷ [])) session.new (R.state regs.old) (R.state regs.new) (M.state media.new)
-        (K.state out.old) (K.state out.new)) }
-    ensures left { result ≡ Err stops.Memory → ForEachMachine session.old (R.state regs.old) (M.state media.old) (λ m.
-        IsLeft m session.new (R.state regs.old) (R.state regs.new) (M.state media.new) (K.state out.old) (K.state out.new)) }
+    ensures carried { ForEachMachine session.old (R.state regs.old) (M.state media.old) (λ m.
+        IsCarriedOut m (lines_asked (line.now ∷ [])) session.new (R.state regs.old) (R.state regs.new) (M.state media.new)
+        (K.state out.old) (K.state out.new) result) }
     ensures sink { (K.state out.old).faults ≤ (K.state out.new).faults }
     ensures bus { (R.state regs.old).faults ≤ (R.state regs.new).faults }
 {
@@ -68,20 +63,17 @@ fn carry_out_command<K: Sink, R: Regs, M: Roll>(
 ) -> Result<(), LineStop>
     requires stands { Stands session.old (R.state regs.old) (M.state media.old) }
     requires ranged { IsRanged command.now }
-    ensures answered { OnOk result (ForEachMachine session.old (R.state regs.old) (M.state media.old) (λ m.
-        IsAnswered m (Ok command.now ∷ []) session.new (R.state regs.old) (R.state regs.new) (M.state media.new)
-        (K.state out.old) (K.state out.new))) }
-    ensures cut { result ≡ Err stops.Sink → ForEachMachine session.old (R.state regs.old) (M.state media.old) (λ m.
-        IsCutOff m (Ok command.now ∷ []) session.new (R.state regs.old) (R.state regs.new) (M.state media.new)
-        (K.state out.old) (K.state out.new)) }
-    ensures left { result ≡ Err stops.Memory → ForEachMachine session.old (R.state regs.old) (M.state media.old) (λ m.
-        IsLeft m session.new (R.state regs.old) (R.state regs.new) (M.state media.new) (K.state out.old) (K.state out.new)) }
+    ensures carried { ForEachMachine session.old (R.state regs.old) (M.state media.old) (λ m.
+        IsCarriedOut m (Ok command.now ∷ []) session.new (R.state regs.old) (R.state regs.new) (M.state media.new)
+        (K.state out.old) (K.state out.new) result) }
     ensures sink { (K.state out.old).faults ≤ (K.state out.new).faults }
     ensures bus { (R.state regs.old).faults ≤ (R.state regs.new).faults }
 {
     answers_are_told();
-    session.act_into(alloc, command, reply, regs, media)?;
-    write_reply(reply, session.topo(), lines, out)
+    match session.act_into(alloc, command, reply, regs, media) {
+        Ok(()) => write_reply(reply, session.topo(), lines, out),
+        Err(Memory) => Err(LineStop::Memory),
+    }
 }
 
 /// Writes the reply to a line that asks for nothing.
@@ -91,12 +83,8 @@ pub(crate) fn tell_bad_line<K: Sink>(
     lines: &mut Lines<0>,
     out: &mut K,
 ) -> Result<(), LineStop>
-    ensures answered { OnOk result ((m : Machine) (regs : RegsState) (media : MediaState) → IsAt session.now regs media m
-        → IsAnswered m (Err fault ∷ []) session.now regs regs media (K.state out.old) (K.state out.new)) }
-    ensures cut { result ≡ Err stops.Sink → (m : Machine) (regs : RegsState) (media : MediaState) → IsAt session.now regs media m
-        → IsCutOff m (Err fault ∷ []) session.now regs regs media (K.state out.old) (K.state out.new) }
-    ensures left { result ≡ Err stops.Memory → (m : Machine) (regs : RegsState) (media : MediaState) → IsAt session.now regs media m
-        → IsLeft m session.now regs regs media (K.state out.old) (K.state out.new) }
+    ensures carried { (m : Machine) (regs : RegsState) (media : MediaState) → IsAt session.now regs media m
+        → IsCarriedOut m (Err fault ∷ []) session.now regs regs media (K.state out.old) (K.state out.new) result }
     ensures sink { (K.state out.old).faults ≤ (K.state out.new).faults }
 {
     write_reply(&Reply::BadLine(fault), session.topo(), lines, out)

@@ -1,14 +1,11 @@
 //! How a reply is written.
 
-ghost use Rattle.std.specs.Prelude.{◌≡◌, ◌≢◌, ◌≤◌, Err, false, OnOk};
-ghost use Rattle.cxl_enc.specs.Faults.{Rose, LeavesCount, CountsExactly};
-ghost use Rattle.cxl_io.specs.Sink.{Takes, TakesPrefix};
-ghost use Rattle.cxl_reply.specs.declared.reply.Reply.TheVariants as replies;
-ghost use Rattle.cxl_reply.specs.Replies.{reply_text, has_short_text};
+ghost use Rattle.std.specs.Prelude.{◌≤◌};
 ghost use Rattle.cxl_reply.specs.Conditions.{IsTold};
-ghost use Rattle.cxl_turns.specs.declared.stops.LineStop.TheVariants as stops;
+ghost use Rattle.cxl_turns.specs.inner.Written.{WritesText, WritesReply};
 
 use crate::stops::LineStop;
+use cxl_enc::{Failed, Memory};
 use cxl_io::{Lines, Sink, write_all};
 use cxl_reply::Reply;
 use cxl_text::{fixed_text, has_short_text, put_long, short};
@@ -23,31 +20,32 @@ pub(crate) fn write_reply<K: Sink>(
     out: &mut K,
 ) -> Result<(), LineStop>
     requires { IsTold topo.now.nodes reply.now }
-    ensures written { OnOk result (Takes (K.state out.old) (K.state out.new) (reply_text topo.now.nodes reply.now)) }
-    ensures unswallowed { OnOk result (LeavesCount (K.state out.old).counts_failures_alone
-        (K.state out.old).faults (K.state out.new).faults) }
-    ensures cut { result ≡ Err stops.Sink → TakesPrefix (K.state out.old) (K.state out.new) (reply_text topo.now.nodes reply.now) }
-    ensures cause { result ≡ Err stops.Sink → Rose (K.state out.old).faults (K.state out.new).faults }
-    ensures long { result ≡ Err stops.Memory → has_short_text reply.now ≡ false }
-    ensures counted { result ≡ Err stops.Sink → CountsExactly 1 (K.state out.old).counts_failures_alone
-        (K.state out.old).faults (K.state out.new).faults }
-    ensures no_fault { result ≡ Err stops.Memory → reply.now ≢ replies.BusRead }
-    ensures left { result ≡ Err stops.Memory → out.new ≡ out.old }
+    ensures told { WritesReply topo.now.nodes (K.state out.old) (K.state out.new) reply.now result }
     ensures counts { (K.state out.old).faults ≤ (K.state out.new).faults }
-    ensures alone { (K.state out.new).counts_failures_alone ≡ (K.state out.old).counts_failures_alone }
 {
     if has_short_text(reply) {
         return match short(reply) {
-            Some(short) => Ok(write_all(out, short.bytes())?),
+            Some(short) => write_text(short.bytes(), out),
             None => unreachable!(),
         };
     }
     if let Some(fixed) = fixed_text(reply) {
-        write_all(out, fixed)?;
-        return Ok(());
+        return write_text(fixed, out);
     }
     lines.block.clear();
-    put_long(&mut lines.block, reply, topo)?;
-    lines.line_done(out)?;
-    Ok(())
+    match put_long(&mut lines.block, reply, topo) {
+        Ok(()) => write_text(&lines.block, out),
+        Err(Memory) => Err(LineStop::Memory),
+    }
+}
+
+/// Writes a text.
+fn write_text<K: Sink>(text: &[u8], out: &mut K) -> Result<(), LineStop>
+    ensures told { WritesText (K.state out.old) (K.state out.new) text.now result }
+    ensures counts { (K.state out.old).faults ≤ (K.state out.new).faults }
+{
+    match write_all(out, text) {
+        Ok(()) => Ok(()),
+        Err(Failed) => Err(LineStop::Sink),
+    }
 }

@@ -1,5 +1,5 @@
 -- What one line of a script, or one command, comes to.
-use Rattle.std.specs.Prelude.{◌≡◌, List, [], ◌∷◌}
+use Rattle.std.specs.Prelude.{◌≡◌, List, [], ◌∷◌, Result, Ok, Err}
 use Rattle.cxl_enc.specs.Faults.{Rose, LeavesCount, CountsExactly}
 use Rattle.cxl_bus.specs.RegsState.{RegsState}
 use Rattle.cxl_io.specs.Sink.{SinkState, Takes, TakesPrefix}
@@ -9,6 +9,8 @@ use Rattle.cxl_machine.specs.Machine.{Machine}
 use Rattle.cxl_machine.specs.Scripts.{Asked, Turn}
 use Rattle.cxl_machine.specs.Turns.{text_of}
 use Rattle.cxl_session.specs.State.{SessionState}
+use Rattle.cxl_turns.specs.declared.stops.LineStop.{LineStop}
+use Rattle.cxl_turns.specs.declared.stops.LineStop.TheVariants.{Sink, Memory}
 use Rattle.cxl_turns.specs.Going.{HasGoneOn}
 
 -- what is asked is answered, and the replies stand whole
@@ -32,3 +34,9 @@ pub record IsLeft (m : Machine) (session : SessionState) (old new : RegsState) (
   pub gone : HasGoneOn m [] [] session old new media
   pub told : Takes before after []
   pub unswallowed : LeavesCount before.counts_failures_alone before.faults after.faults
+
+-- what is asked comes to this, as the result says
+abbrev pub IsCarriedOut : Machine → List Asked → SessionState → RegsState → RegsState → MediaState → SinkState → SinkState → Result (Unit {0}) LineStop → Type 0
+IsCarriedOut m asked session old new media before after (Ok done) = IsAnswered m asked session old new media before after
+IsCarriedOut m asked session old new media before after (Err Sink) = IsCutOff m asked session old new media before after
+IsCarriedOut m asked session old new media before after (Err Memory) = IsLeft m session old new media before after

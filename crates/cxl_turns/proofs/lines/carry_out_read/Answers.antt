@@ -1,9 +1,10 @@
-use Rattle.std.proofs.Common.{◌<◌, Err, refl, ap, ◌∙◌, inl, inr, arith}
+use Rattle.std.proofs.Common.{◌<◌, Err, refl, ap, ◌∙◌, inl, inr}
+use Rattle.std.proofs.Math.Nat.{le_refl}
 use Rattle.cxl_io.specs.declared.line_reader.Taken.TheVariants as readers
 use Rattle.cxl_machine.specs.Turns.{machine_after}
 use Rattle.cxl_turns.specs.declared.stops.LineStop.{LineStop}
 use Rattle.cxl_turns.proofs.FirstLines.{still, falls}
-use Rattle.cxl_turns.proofs.Runs.{Stage, Took, took_one, on_ok_so, run_begins, reads_line, reads_long, took_so, took_more, took_cut, took_left, run_done, run_fails, run_too_much}
+use Rattle.cxl_turns.proofs.Runs.{Stage, Took, took_one, run_begins, reads_line, reads_long, took_so, took_more, took_cut, took_left, run_done, run_fails, run_too_much}
 use Rattle.cxl_turns.proofs.lines.carry_out_read.Goals as goal
 use Rattle.cxl_turns.proofs.lines.carry_out_read.Goals.{in-Line, in-Long}
 
@@ -68,23 +69,11 @@ lines-preserved g c =
       | in-Line w ↦
           took_so c.lines.invariant.passed c.next.new.self start now _ _ _ _ _ _ _ _ _ _ _ w.session-is (ap g.R.Regs.state w.regs-is) (ap g.M.Media.state w.media-is) (ap g.K.Sink.state w.out-is) w.carried-is
           (took_one c.lines.invariant.passed c.next.new.self start now _ _ _ _ _ _ _
-          (reads_line c.lines.invariant.passed c.lines.reader c.next.new.self _ _ _ w.line.result.now w.line.ensures c.lines.invariant.read w.in-Line.ensures.next) c.next.ensures.counts record {
-            answered = w.carry_out_line-carried.ensures.answered;
-            cut = w.carry_out_line-carried.ensures.cut;
-            left = w.carry_out_line-carried.ensures.left;
-            sink = w.carry_out_line-carried.ensures.sink;
-            bus = w.carry_out_line-carried.ensures.bus;
-          })
+          (reads_line c.lines.invariant.passed c.lines.reader c.next.new.self _ _ _ w.line.result.now w.line.ensures c.lines.invariant.read w.in-Line.ensures.next) c.next.ensures.counts record { carried = w.carry_out_line-carried.ensures.carried; sink = w.carry_out_line-carried.ensures.sink; bus = w.carry_out_line-carried.ensures.bus })
       | in-Long w ↦
           took_so c.lines.invariant.passed c.next.new.self start now _ _ _ _ _ _ _ _ _ _ _ w.session-is (ap g.R.Regs.state w.regs-is) (ap g.M.Media.state w.media-is) (ap g.K.Sink.state w.out-is) w.carried-is
           (took_one c.lines.invariant.passed c.next.new.self start now _ _ _ _ _ _ _
-          (reads_long c.lines.invariant.passed c.lines.reader c.next.new.self _ _ _ c.lines.invariant.read w.in-Long.ensures.next) c.next.ensures.counts record {
-            answered = on_ok_so _ _ w.tell_bad_line-carried.result w.tell_bad_line-carried.ensures.answered (λ all m at. all m now.regs now.media at);
-            cut = λ is m at. w.tell_bad_line-carried.ensures.cut is m now.regs now.media at;
-            left = λ is m at. w.tell_bad_line-carried.ensures.left is m now.regs now.media at;
-            sink = w.tell_bad_line-carried.ensures.sink;
-            bus = omega arith;
-          })
+          (reads_long c.lines.invariant.passed c.lines.reader c.next.new.self _ _ _ c.lines.invariant.read w.in-Long.ensures.next) c.next.ensures.counts record { carried = λ m at. w.tell_bad_line-carried.ensures.carried m now.regs now.media at; sink = w.tell_bad_line-carried.ensures.sink; bus = le_refl now.regs.faults })
     ] in
     took_more c.lines.reader c.next.new.self start now later c.match-next.carried c.lines.invariant took c.in-Ok.field-0 c.in-Ok.is c.next.ensures.alone
     (elim c.match-next.branch [
@@ -119,23 +108,11 @@ returns-in-Err-Sink-clause-ends g c =
       | in-Line w ↦
           took_so c.lines.invariant.passed c.next.new.self start now _ _ _ _ _ _ _ _ _ _ _ w.session-is (ap g.R.Regs.state w.regs-is) (ap g.M.Media.state w.media-is) (ap g.K.Sink.state w.out-is) w.carried-is
           (took_one c.lines.invariant.passed c.next.new.self start now _ _ _ _ _ _ _
-          (reads_line c.lines.invariant.passed c.lines.reader c.next.new.self _ _ _ w.line.result.now w.line.ensures c.lines.invariant.read w.in-Line.ensures.next) c.next.ensures.counts record {
-            answered = w.carry_out_line-carried.ensures.answered;
-            cut = w.carry_out_line-carried.ensures.cut;
-            left = w.carry_out_line-carried.ensures.left;
-            sink = w.carry_out_line-carried.ensures.sink;
-            bus = w.carry_out_line-carried.ensures.bus;
-          })
+          (reads_line c.lines.invariant.passed c.lines.reader c.next.new.self _ _ _ w.line.result.now w.line.ensures c.lines.invariant.read w.in-Line.ensures.next) c.next.ensures.counts record { carried = w.carry_out_line-carried.ensures.carried; sink = w.carry_out_line-carried.ensures.sink; bus = w.carry_out_line-carried.ensures.bus })
       | in-Long w ↦
           took_so c.lines.invariant.passed c.next.new.self start now _ _ _ _ _ _ _ _ _ _ _ w.session-is (ap g.R.Regs.state w.regs-is) (ap g.M.Media.state w.media-is) (ap g.K.Sink.state w.out-is) w.carried-is
           (took_one c.lines.invariant.passed c.next.new.self start now _ _ _ _ _ _ _
-          (reads_long c.lines.invariant.passed c.lines.reader c.next.new.self _ _ _ c.lines.invariant.read w.in-Long.ensures.next) c.next.ensures.counts record {
-            answered = on_ok_so _ _ w.tell_bad_line-carried.result w.tell_bad_line-carried.ensures.answered (λ all m at. all m now.regs now.media at);
-            cut = λ is m at. w.tell_bad_line-carried.ensures.cut is m now.regs now.media at;
-            left = λ is m at. w.tell_bad_line-carried.ensures.left is m now.regs now.media at;
-            sink = w.tell_bad_line-carried.ensures.sink;
-            bus = omega arith;
-          })
+          (reads_long c.lines.invariant.passed c.lines.reader c.next.new.self _ _ _ c.lines.invariant.read w.in-Long.ensures.next) c.next.ensures.counts record { carried = λ m at. w.tell_bad_line-carried.ensures.carried m now.regs now.media at; sink = w.tell_bad_line-carried.ensures.sink; bus = le_refl now.regs.faults })
     ] in
     let which = rw c.in-Err-Sink.is at c.in-Err-Sink.field-0-is in
     took_cut c.lines.reader c.next.new.self start now later c.match-next.carried c.lines.invariant took (c.in-Err-Sink.is ∙ ap (λ (stop : LineStop). Err stop) which)
@@ -167,23 +144,11 @@ returns-in-Err-Memory-clause-ends g c =
       | in-Line w ↦
           took_so c.lines.invariant.passed c.next.new.self start now _ _ _ _ _ _ _ _ _ _ _ w.session-is (ap g.R.Regs.state w.regs-is) (ap g.M.Media.state w.media-is) (ap g.K.Sink.state w.out-is) w.carried-is
           (took_one c.lines.invariant.passed c.next.new.self start now _ _ _ _ _ _ _
-          (reads_line c.lines.invariant.passed c.lines.reader c.next.new.self _ _ _ w.line.result.now w.line.ensures c.lines.invariant.read w.in-Line.ensures.next) c.next.ensures.counts record {
-            answered = w.carry_out_line-carried.ensures.answered;
-            cut = w.carry_out_line-carried.ensures.cut;
-            left = w.carry_out_line-carried.ensures.left;
-            sink = w.carry_out_line-carried.ensures.sink;
-            bus = w.carry_out_line-carried.ensures.bus;
-          })
+          (reads_line c.lines.invariant.passed c.lines.reader c.next.new.self _ _ _ w.line.result.now w.line.ensures c.lines.invariant.read w.in-Line.ensures.next) c.next.ensures.counts record { carried = w.carry_out_line-carried.ensures.carried; sink = w.carry_out_line-carried.ensures.sink; bus = w.carry_out_line-carried.ensures.bus })
       | in-Long w ↦
           took_so c.lines.invariant.passed c.next.new.self start now _ _ _ _ _ _ _ _ _ _ _ w.session-is (ap g.R.Regs.state w.regs-is) (ap g.M.Media.state w.media-is) (ap g.K.Sink.state w.out-is) w.carried-is
           (took_one c.lines.invariant.passed c.next.new.self start now _ _ _ _ _ _ _
-          (reads_long c.lines.invariant.passed c.lines.reader c.next.new.self _ _ _ c.lines.invariant.read w.in-Long.ensures.next) c.next.ensures.counts record {
-            answered = on_ok_so _ _ w.tell_bad_line-carried.result w.tell_bad_line-carried.ensures.answered (λ all m at. all m now.regs now.media at);
-            cut = λ is m at. w.tell_bad_line-carried.ensures.cut is m now.regs now.media at;
-            left = λ is m at. w.tell_bad_line-carried.ensures.left is m now.regs now.media at;
-            sink = w.tell_bad_line-carried.ensures.sink;
-            bus = omega arith;
-          })
+          (reads_long c.lines.invariant.passed c.lines.reader c.next.new.self _ _ _ c.lines.invariant.read w.in-Long.ensures.next) c.next.ensures.counts record { carried = λ m at. w.tell_bad_line-carried.ensures.carried m now.regs now.media at; sink = w.tell_bad_line-carried.ensures.sink; bus = le_refl now.regs.faults })
     ] in
     let which = rw c.in-Err-Memory.is at c.in-Err-Memory.field-0-is in
     took_left c.lines.reader c.next.new.self start now later c.match-next.carried c.lines.invariant took (c.in-Err-Memory.is ∙ ap (λ (stop : LineStop). Err stop) which)
