@@ -12,7 +12,7 @@ use Rattle.cxl_machine.specs.Machine.{Machine}
 use Rattle.cxl_machine.specs.Answers.{Answers}
 use Rattle.cxl_machine.specs.Outcomes.{NoFault}
 use Rattle.cxl_machine.specs.Memory.{takes_memory}
-use Rattle.cxl_machine.specs.Replies.{Answer, stays}
+use Rattle.cxl_machine.specs.Replies.{Answer, is_refusal, stays}
 use Rattle.cxl_machine.specs.Sound.{IsMachine}
 use Rattle.cxl_machine.specs.Trails.{TrailOf}
 use Rattle.cxl_machine.proofs.Fails.{no_call_fails}
@@ -47,6 +47,14 @@ module _ (session next : SessionState) (old new : RegsState) (media left : Media
 
   pub of_result : (result : Result Reply Memory) → command ≡ other → IfOk result (IsTurnFor session next old new media left other) → IfOk result (IsTurnFor session next old new media left command)
   of_result result is turn = subst (λ (one : Command). IfOk result (IsTurnFor session next old new media left one)) (sym is) turn
+
+  -- the reply is put in the place of an earlier one
+  pub of_reply : (reply told : Reply) → IsTurnFor session next old new media left other told → reply ≡ told → IsTurnFor session next old new media left other reply
+  of_reply reply told turn same = subst (λ (one : Reply). IsTurnFor session next old new media left other one) (sym same) turn
+
+-- a refusal that is put there is one
+pub refusal_told : (reply told : Reply) → is_refusal reply ≡ true → reply ≡ told → is_refusal told ≡ true
+refusal_told reply told is same = subst (λ (one : Reply). is_refusal one ≡ true) same is
 
 -- ---- turns without a call of the bus
 

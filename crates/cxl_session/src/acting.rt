@@ -92,18 +92,9 @@ impl Session {
     {
         match command {
             Command::Load(load) => self.load(alloc, *load, media, reply),
-            Command::Store(store) => {
-                put_reply(reply, self.store(store, media));
-                Ok(())
-            }
-            Command::Down(h) => {
-                self.put_down(*h, reply);
-                Ok(())
-            }
-            Command::Up(up) => {
-                self.put_up(*up, reply);
-                Ok(())
-            }
+            Command::Store(store) => Ok(put_reply(reply, self.store(store, media))),
+            Command::Down(h) => Ok(self.put_down(*h, reply)),
+            Command::Up(up) => Ok(self.put_up(*up, reply)),
             _ => self.act_on_regions_into(alloc, command, reply, regs, media),
         }
     }

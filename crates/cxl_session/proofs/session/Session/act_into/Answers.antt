@@ -1,4 +1,4 @@
-use Rattle.std.proofs.Common.{◌≡◌, true, refl, sym, subst}
+use Rattle.std.proofs.Common.{refl, sym, subst}
 use Rattle.std.proofs.lemmas.Result.{on_ok_weaker}
 use Rattle.std.proofs.Math.Nat.{le_refl}
 use Rattle.cxl_bus.proofs.Failed.{fails_nowhere}
@@ -6,9 +6,8 @@ use Rattle.cxl_script.specs.Grammar.{IsRanged}
 use Rattle.cxl_script.specs.declared.command.Command.TheVariants as commands
 use Rattle.cxl_reply.specs.declared.reply.Reply.{Reply}
 use Rattle.cxl_machine.specs.Accesses.{store_answer}
-use Rattle.cxl_machine.specs.Replies.{is_refusal}
 use Rattle.cxl_session.specs.inner.Answering.{IsWrittenFor}
-use Rattle.cxl_session.proofs.Acts.{of_command, read_turn, write_turn, image_held, some_machine, somehow, holds_some, untouched_by, owes_none, on_ok_always, err_always}
+use Rattle.cxl_session.proofs.Acts.{of_command, read_turn, write_turn, image_held, some_machine, somehow, holds_some, untouched_by, owes_none, refusal_told, on_ok_always, err_always}
 use Rattle.cxl_session.proofs.session.Session.act_into.Goals as goal
 
 pub load-requires : goal.load-requires
@@ -50,10 +49,10 @@ returns-in-Store g c =
           (write_turn session old (commands.Store c.in-Store.store) (λ m. refl) media left reply
           (λ m. store_answer m c.in-Store.store) (λ m. record { unfailing = refl; told = refl })
           (subst (λ (told : Reply). IsWrittenFor session media left (λ m. store_answer m c.in-Store.store) told) (sym c.put_reply.ensures) c.store.ensures.answer));
-      refused = λ is. (refl, refl, c.store.ensures.refused (subst (λ (told : Reply). is_refusal told ≡ true) c.put_reply.ensures is));
+      refused = λ is. (refl, refl, c.store.ensures.refused (refusal_told reply c.store.result is c.put_reply.ensures));
       memory = tt;
       unfailed = tt;
-      ready = λ _. refl;
+      ready = λ _. cc;
       image = image_held session old media c.requires.stands;
       host = (refl, refl);
       counts = le_refl old.faults;

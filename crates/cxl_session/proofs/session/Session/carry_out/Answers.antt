@@ -174,19 +174,7 @@ restore-requires-clause-room g c =
     let session : SessionState = c.args.self.now in
     let own : JobFields = job_fields c.in-Some.pending in
     let left : List Registers = c.make.new.self.image in
-    let made : ℕ = c.make.new.pending.job.done in
-    let goes : IsMadeTo own made session.image left (g.R.Regs.state c.args.regs.now) (g.R.Regs.state c.make.new.regs) =
-    subst (λ (blocks : List Registers). IsMadeTo own made blocks left (g.R.Regs.state c.args.regs.now) (g.R.Regs.state c.make.new.regs))
-    (ap (λ (s : SessionState). s.image) c.take_job.ensures.taken) c.make.ensures.made in
-    let total = c.total-total.ensures in
-    let failed = on_fail c.make.result (sym c.is_ok.ensures.value ∙ c.if-is_ok.false) in
-    let part = on_err c.make.result failed c.make.ensures.part in
     let last : List Registers = c.undo.new.self.image in
-    let kept : ℕ = c.undo.new.pending.job.done in
-    let as_made : job_fields c.make.new.pending ≡ record own { done = made } = c.make.ensures.job in
-    let back : IsTakenBackTo (record own { done = made }) kept left last (g.R.Regs.state c.make.new.regs) (g.R.Regs.state c.undo.new.regs) =
-    subst (λ (j : JobFields). IsTakenBackTo j kept left last (g.R.Regs.state c.make.new.regs) (g.R.Regs.state c.undo.new.regs)) as_made c.undo.ensures.back in
-    let as_kept : job_fields c.undo.new.pending ≡ record own { done = kept } = c.undo.ensures.job ∙ ap (λ (j : JobFields). record j { done = kept }) as_made in
     let image_is : c.undo.new.self ≡ record session { image = last; job = None } =
     c.undo.ensures.image ∙ ap (λ (s : SessionState). record s { image = last }) (c.make.ensures.image ∙ ap (λ (s : SessionState). record s { image = left }) c.take_job.ensures.taken) in
     let m : Machine = c.requires.0 in
@@ -201,17 +189,9 @@ restore-requires-clause-place g c =
     let own : JobFields = job_fields c.in-Some.pending in
     let left : List Registers = c.make.new.self.image in
     let made : ℕ = c.make.new.pending.job.done in
-    let goes : IsMadeTo own made session.image left (g.R.Regs.state c.args.regs.now) (g.R.Regs.state c.make.new.regs) =
-    subst (λ (blocks : List Registers). IsMadeTo own made blocks left (g.R.Regs.state c.args.regs.now) (g.R.Regs.state c.make.new.regs))
-    (ap (λ (s : SessionState). s.image) c.take_job.ensures.taken) c.make.ensures.made in
-    let total = c.total-total.ensures in
-    let failed = on_fail c.make.result (sym c.is_ok.ensures.value ∙ c.if-is_ok.false) in
-    let part = on_err c.make.result failed c.make.ensures.part in
     let last : List Registers = c.undo.new.self.image in
     let kept : ℕ = c.undo.new.pending.job.done in
     let as_made : job_fields c.make.new.pending ≡ record own { done = made } = c.make.ensures.job in
-    let back : IsTakenBackTo (record own { done = made }) kept left last (g.R.Regs.state c.make.new.regs) (g.R.Regs.state c.undo.new.regs) =
-    subst (λ (j : JobFields). IsTakenBackTo j kept left last (g.R.Regs.state c.make.new.regs) (g.R.Regs.state c.undo.new.regs)) as_made c.undo.ensures.back in
     let as_kept : job_fields c.undo.new.pending ≡ record own { done = kept } = c.undo.ensures.job ∙ ap (λ (j : JobFields). record j { done = kept }) as_made in
     let image_is : c.undo.new.self ≡ record session { image = last; job = None } =
     c.undo.ensures.image ∙ ap (λ (s : SessionState). record s { image = last }) (c.make.ensures.image ∙ ap (λ (s : SessionState). record s { image = left }) c.take_job.ensures.taken) in
