@@ -1,4 +1,5 @@
-use Rattle.std.proofs.Common.{◌≡◌, ◌<◌, ◌^◌, ℕ, List, length, Err, ap, ◌∙◌, arith}
+use Rattle.std.proofs.Common.{◌≡◌, ◌<◌, ◌^◌, ℕ, List, Result, Ok, Err, length, sym, ap, ◌∙◌, arith}
+use Rattle.cxl_machine.specs.declared.fault.OpenFault.{OpenFault}
 use Rattle.cxl_machine.specs.declared.fault.OpenFault.TheVariants as faults
 use Rattle.cxl_model.specs.declared.found.Found.{Found}
 use Rattle.cxl_opening.proofs.FewRegions.{few_regions}
@@ -11,36 +12,54 @@ overflow_cast-result c =
     let len = c.len-then-len-gt-REGION_LIMIT.ensures in
     omega (arith, few, size, len)
 
-pub returns-then-len-gt-REGION_LIMIT-clause-filled : goal.returns-then-len-gt-REGION_LIMIT-clause-filled
-returns-then-len-gt-REGION_LIMIT-clause-filled c = λ s n system listed has more.
-    let same : length c.args.founds.items ≡ n =
-    ap (λ (founds : List Found). length founds) (c.regions_are_listed.ensures.one s c.args.founds.items has.1.0 system listed has.1.1) ∙ has.1.2 in
+-- there are as many as the image has
+as_many : (founds others : List Found) (n : ℕ) → founds ≡ others → length others ≡ n → length founds ≡ n
+as_many founds others n same count = ap (λ (fs : List Found). length fs) same ∙ count
+
+full_of : {T : Type 0} (k n : ℕ) → ◌≡◌ {A = Result T OpenFault} (Err (faults.Full k)) (Err (faults.Full n)) → k ≡ n
+full_of k n same = cc
+
+unrefused : {T : Type 0} (x : T) (n : ℕ) → ◌≡◌ {A = Result T OpenFault} (Ok x) (Err (faults.Full n)) → ⊥
+unrefused x n is = cc
+
+pub returns-then-len-gt-REGION_LIMIT : goal.returns-then-len-gt-REGION_LIMIT
+returns-then-len-gt-REGION_LIMIT c =
+    let founds = c.args.founds.items in
     let size = c.args.founds.ok.0 in
     let len = c.len-then-len-gt-REGION_LIMIT.ensures in
-    let e : c.len-then-len-gt-REGION_LIMIT.result ≡ n = omega (arith, same, size, len) in
-    ap (λ (k : ℕ). Err (faults.Full k)) e
+    let over = c.if-len-gt-REGION_LIMIT.true in
+    let before = c.len.ensures in
+    let told : c.len-then-len-gt-REGION_LIMIT.result ≡ length founds = omega (arith, size, len) in
+    record {
+      opens = λ s system accepted listed. tt;
+      full = λ s n system accepted listed is.
+          let same : length founds ≡ n = sym told ∙ full_of _ n is in
+          ((accepted, (founds, listed, same)), omega (arith, over, before, size, same));
+      filled = λ s n system listed has more.
+          ap (λ (k : ℕ). Err (faults.Full k)) (told ∙ as_many founds has.1.0 n (c.regions_are_listed.ensures.one s founds has.1.0 system listed has.1.1) has.1.2);
+      only = ap faults.Full told;
+    }
 
-pub returns-clause-opens : goal.returns-clause-opens
-returns-clause-opens c = λ s system accepted listed.
+pub returns : goal.returns
+returns c =
+    let founds = c.args.founds.items in
     let size = c.args.founds.ok.0 in
     let len = c.len.ensures in
     let test = c.if-len-gt-REGION_LIMIT.false in
     record {
-      system = system;
-      accepted = accepted;
-      listed = listed;
-      few = omega (arith, size, len, test);
-      unbroken = c.accepted_or_breach.ensures.not_both s accepted;
-      uncrowded = λ n has.
-          let same : length c.args.founds.items ≡ n =
-          ap (λ (founds : List Found). length founds) (c.regions_are_listed.ensures.one s c.args.founds.items has.1.0 system listed has.1.1) ∙ has.1.2 in
-          omega (arith, same, size, len, test);
+      opens = λ s system accepted listed. record {
+        system = system;
+        accepted = accepted;
+        listed = listed;
+        few = omega (arith, size, len, test);
+        unbroken = c.accepted_or_breach.ensures.not_both s accepted;
+        uncrowded = λ n has.
+            let same = as_many founds has.1.0 n (c.regions_are_listed.ensures.one s founds has.1.0 system listed has.1.1) has.1.2 in
+            omega (arith, same, size, len, test);
+      };
+      full = λ s n system accepted listed is. absurd (unrefused c.args.founds n is);
+      filled = λ s n system listed has more.
+          let same = as_many founds has.1.0 n (c.regions_are_listed.ensures.one s founds has.1.0 system listed has.1.1) has.1.2 in
+          absurd (omega (arith, same, size, len, test, more));
+      only = tt;
     }
-
-pub returns-clause-filled : goal.returns-clause-filled
-returns-clause-filled c = λ s n system listed has more.
-    let same : length c.args.founds.items ≡ n =
-    ap (λ (founds : List Found). length founds) (c.regions_are_listed.ensures.one s c.args.founds.items has.1.0 system listed has.1.1) ∙ has.1.2 in
-    let size = c.args.founds.ok.0 in
-    let len = c.len.ensures in
-    absurd (omega (arith, same, size, len, c.if-len-gt-REGION_LIMIT.false, more))

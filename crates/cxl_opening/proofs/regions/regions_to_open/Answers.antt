@@ -1,8 +1,67 @@
-use Rattle.std.proofs.Common.{inr}
+use Rattle.std.proofs.Common.{◌≡◌, rules, Result, Ok, Err, refl, subst, inl, inr}
+use Rattle.std.specs.Prelude.{IfErr}
+use Rattle.cxl_check.specs.declared.fault.Breach.{Breach}
+use Rattle.cxl_machine.specs.declared.fault.OpenFault.{OpenFault}
+use Rattle.cxl_machine.specs.declared.fault.OpenFault.TheVariants as faults
+use Rattle.cxl_model.specs.Accepted.{IsFirstBreach}
 use Rattle.cxl_model.specs.System.{System, system_of}
 use Rattle.cxl_opening.proofs.regions.regions_to_open.Goals as goal
 
-pub returns-clause-filled : goal.returns-clause-filled
-returns-clause-filled c = λ n has more.
+-- there is one fault alone
+refused_as : {T : Type 0} (result : Result T OpenFault) (own other : OpenFault) → result ≡ Err own → result ≡ Err other → own ≡ other
+refused_as result own other is so = cc
+
+only_fault : {T : Type 0} (result : Result T OpenFault) (own other : OpenFault) → IfErr result (λ fault. fault ≡ own) → result ≡ Err other → own ≡ other
+only_fault (Ok x) own other only is = absurd (cc)
+only_fault (Err fault) own other only is = cc
+
+breach_of : (b other : Breach) → faults.Breach b ≡ faults.Breach other → b ≡ other
+breach_of b other same = cc
+
+pub accepted_image_is_system-requires : goal.accepted_image_is_system-requires
+accepted_image_is_system-requires c = search rules
+
+pub few_to_open-requires : goal.few_to_open-requires
+few_to_open-requires c =
     let s : System = system_of c.args.start.now c.args.topo.now c.args.windows.now in
-    inr (c.few_to_open.ensures.filled s n c.accepted_image_is_system.ensures c.in-Ok.ensures.regions has more)
+    (s, c.accepted_image_is_system.ensures, c.in-Ok.ensures.accepted, c.in-Ok.ensures.regions)
+
+pub returns-in-Err-Breach : goal.returns-in-Err-Breach
+returns-in-Err-Breach c =
+    let s : System = system_of c.args.start.now c.args.topo.now c.args.windows.now in
+    let own : Breach = c.in-Err-Breach.breach in
+    let first = rw c.in-Err-Breach.field-0-is at c.in-Err-Breach.ensures.breach in
+    record {
+      opens = tt;
+      breach = λ b is. subst (λ (b : Breach). IsFirstBreach s b.rule b.node b.decoder) (breach_of own b (refused_as _ (faults.Breach own) (faults.Breach b) refl is)) first;
+      breached = λ has. inr (own, refl);
+      full = λ n is. absurd (cc);
+      filled = λ n has more. let only = rw c.in-Err-Breach.field-0-is at (c.in-Err-Breach.ensures.only_regions has.0) in absurd (cc);
+      no_bus = λ is. cc;
+    }
+
+pub returns-in-Err-Memory : goal.returns-in-Err-Memory
+returns-in-Err-Memory c = record {
+  opens = tt;
+  breach = λ b is. absurd (cc);
+  breached = λ has. inl refl;
+  full = λ n is. absurd (cc);
+  filled = λ n has more. inl refl;
+  no_bus = λ is. cc;
+}
+
+pub returns : goal.returns
+returns c =
+    let s : System = system_of c.args.start.now c.args.topo.now c.args.windows.now in
+    let system = c.accepted_image_is_system.ensures in
+    let accepted = c.in-Ok.ensures.accepted in
+    let listed = c.in-Ok.ensures.regions in
+    let few = c.few_to_open.ensures in
+    record {
+      opens = few.opens s system accepted listed;
+      breach = λ b is. let full = only_fault c.few_to_open.result _ (faults.Breach b) few.only is in absurd (cc);
+      breached = λ has. absurd (c.accepted_or_breach.ensures.not_both s accepted has);
+      full = λ n is. few.full s n system accepted listed is;
+      filled = λ n has more. inr (few.filled s n system listed has more);
+      no_bus = λ is. let full = only_fault c.few_to_open.result _ faults.Bus few.only is in cc;
+    }
