@@ -25,28 +25,17 @@ use Rattle.cxl_machine.specs.Scripts.{Asked, Turn, asked_before, lines_asked}
 use Rattle.cxl_machine.specs.Turns.{AreTurns, machine_after, text_of}
 use Rattle.cxl_machine.proofs.GoingOn.{lines_more}
 use Rattle.cxl_session.specs.State.{SessionState}
-use Rattle.cxl_session.specs.Standing.{ForEachMachine}
 use Rattle.cxl_turns.specs.declared.endings.Ending.{Ending}
 use Rattle.cxl_turns.specs.declared.endings.Ending.TheVariants as endings
 use Rattle.cxl_turns.specs.declared.stops.LineStop.{LineStop}
 use Rattle.cxl_turns.specs.declared.stops.LineStop.TheVariants as stops
 use Rattle.cxl_turns.specs.Going.{HasGoneOn}
 use Rattle.cxl_turns.specs.Endings.{StopsReading, IsCutBehind, EndsLines, read_out, reply_cut, runs_out}
+use Rattle.cxl_turns.specs.inner.Stages.{Stage, EachFrom, IsEnd}
 use Rattle.cxl_turns.specs.inner.CarriedOut.{IsAnswered, IsCutOff, IsLeft, IsCarriedOut}
 use Rattle.cxl_turns.proofs.FirstLines.{GoesOnOrEnds, first_lines, first_but_last, no_first_lines, goes_on_or_ends, fault_rose, fault_going}
 use Rattle.cxl_turns.proofs.Going.{nodes_after, text_both, gone_same, gone_still, gone_both}
 use Rattle.cxl_turns.proofs.CarriedOut.{answered_none, takes_none}
-
--- what all have come to
-pub record Stage : Type 0 where
-  pub session : SessionState
-  pub regs : RegsState
-  pub media : MediaState
-  pub script : SourceState
-  pub sink : SinkState
-
-abbrev pub EachFrom : Stage → (Machine → Type 0) → Type 0
-EachFrom stage P = ForEachMachine stage.session stage.regs stage.media P
 
 -- these lines were read, and all that they ask for is answered
 pub record HaveRun (reader : Reader) (start now : Stage) : Type 0 where
@@ -59,11 +48,6 @@ pub record HaveRun (reader : Reader) (start now : Stage) : Type 0 where
   pub sink : start.sink.faults ≤ now.sink.faults
   pub bus : start.regs.faults ≤ now.regs.faults
   pub each : EachFrom start (λ m. IsAnswered m (lines_asked passed) now.session start.regs now.regs now.media start.sink now.sink)
-
--- how the lines end, for each machine that stood first
-abbrev pub End : Stage → Stage → Ending → Type 0
-End start now ending = EachFrom start (λ m. (asked : List Asked) × (turns : List Turn) × HasGoneOn m asked turns now.session start.regs now.regs now.media
-    × EndsLines m.settled.nodes asked turns start.script now.script start.sink now.sink ending)
 
 -- ---- before the first line
 
@@ -81,9 +65,14 @@ run_begins start = record {
 }
 
 -- memory ran out there
-pub none_run : (start : Stage) → End start start endings.Memory
-none_run start m at =
-    ([], [], gone_same m start.session start.regs start.media at, runs_out [] (no_first_lines start.script) refl refl (takes_none start.sink start.sink refl) (λ _. refl) (λ _. refl))
+pub none_run : (start : Stage) → IsEnd start start endings.Memory
+none_run start = record {
+  ends = λ m at.
+      ([], [], gone_same m start.session start.regs start.media at, runs_out [] (no_first_lines start.script) refl refl (takes_none start.sink start.sink refl) (λ _. refl) (λ _. refl));
+  source = omega arith;
+  sink = omega arith;
+  bus = omega arith;
+}
 
 -- ---- a line of more than 4,096 bytes
 
@@ -169,9 +158,21 @@ module _ (reader next : Reader) (start now later : Stage) (run : HaveRun reader 
               (Takes-append start.sink now.sink later.sink (text_of m.settled.nodes turns) (text_of m.settled.nodes others) first
               (subst (λ nodes. Takes now.sink later.sink (text_of nodes others)) (nodes_after m (lines_asked run.passed) turns are) second))
 
+  ends_so : (ending : Ending) → now.regs.faults ≤ later.regs.faults
+      → EachFrom start (λ m. (asked : List Asked) × (turns : List Turn) × HasGoneOn m asked turns later.session start.regs later.regs later.media
+      × EndsLines m.settled.nodes asked turns start.script later.script start.sink later.sink ending)
+      → IsEnd start later ending
+  ends_so ending bus ends = record {
+    ends = ends;
+    source = (let so_far = run.source in omega (arith, so_far, source));
+    sink = (let so_far = run.sink in omega (arith, so_far, sink));
+    bus = (let so_far = run.bus in omega (arith, so_far, bus));
+  }
+
   -- the sink failed in its reply
-  pub run_cut : EachFrom now (λ m. IsCutOff m asked later.session now.regs later.regs later.media now.sink later.sink) → End start later endings.WriteFault
-  run_cut each m at =
+  pub run_cut : now.regs.faults ≤ later.regs.faults → EachFrom now (λ m. IsCutOff m asked later.session now.regs later.regs later.media now.sink later.sink)
+      → IsEnd start later endings.WriteFault
+  run_cut bus each = ends_so endings.WriteFault bus (λ m at.
       let was = run.each m at in
       let more = each (machine_after m was.turns) was.gone.at in (
         lines_asked (run.passed ++ one.line ∷ []),
@@ -182,7 +183,7 @@ module _ (reader next : Reader) (start now later : Stage) (run : HaveRun reader 
             (cut_behind m.settled.nodes (text_of m.settled.nodes was.turns) more.turn.reply was.told
             (subst (λ nodes. TakesPrefix now.sink later.sink (reply_text nodes more.turn.reply)) (nodes_after m (lines_asked run.passed) was.turns was.gone.answered) more.cut) more.rose
             (λ only. subst (λ n. CountsExactly 1 true n later.sink.faults) (was.unswallowed only) (λ _. more.counted (was.alone ∙ only)) refl)) refl,
-      )
+      ))
     where
       cut_behind : (nodes : List Node) (front : List ℕ) (reply : Reply) → Takes start.sink now.sink front → TakesPrefix now.sink later.sink (reply_text nodes reply)
           → Rose now.sink.faults later.sink.faults → CountsExactly 1 start.sink.counts_failures_alone start.sink.faults later.sink.faults
@@ -196,9 +197,9 @@ module _ (reader next : Reader) (start now later : Stage) (run : HaveRun reader 
       }
 
   -- memory ran out at it
-  pub run_left : LeavesCount now.script.counts_failures_alone now.script.faults later.script.faults
-      → EachFrom now (λ m. IsLeft m later.session now.regs later.regs later.media now.sink later.sink) → End start later endings.Memory
-  run_left left each m at =
+  pub run_left : LeavesCount now.script.counts_failures_alone now.script.faults later.script.faults → now.regs.faults ≤ later.regs.faults
+      → EachFrom now (λ m. IsLeft m later.session now.regs later.regs later.media now.sink later.sink) → IsEnd start later endings.Memory
+  run_left left bus each = ends_so endings.Memory bus (λ m at.
       let was = run.each m at in
       let more = each (machine_after m was.turns) was.gone.at in (
         lines_asked run.passed,
@@ -209,7 +210,7 @@ module _ (reader next : Reader) (start now later : Stage) (run : HaveRun reader 
             (subst (λ text. Takes start.sink later.sink text) (append-nil (text_of m.settled.nodes was.turns))
             (Takes-append start.sink now.sink later.sink (text_of m.settled.nodes was.turns) [] was.told more.told))
             (λ only. left (run.alone ∙ only) ∙ run.left only) (λ only. more.unswallowed (was.alone ∙ only) ∙ was.unswallowed only),
-      )
+      ))
 
 -- ---- what a line came to, by its result
 
@@ -261,11 +262,11 @@ module _ (reader next : Reader) (start now later : Stage) (result : Result (Unit
   took_more done is alone left =
       run_more reader next start now later run took.asked took.one took.source took.sink alone left took.bus (known (Ok done) is)
 
-  pub took_cut : result ≡ Err stops.Sink → End start later endings.WriteFault
-  took_cut is = run_cut reader next start now later run took.asked took.one took.source took.sink (known (Err stops.Sink) is)
+  pub took_cut : result ≡ Err stops.Sink → IsEnd start later endings.WriteFault
+  took_cut is = run_cut reader next start now later run took.asked took.one took.source took.sink took.bus (known (Err stops.Sink) is)
 
-  pub took_left : result ≡ Err stops.Memory → LeavesCount now.script.counts_failures_alone now.script.faults later.script.faults → End start later endings.Memory
-  took_left is left = run_left reader next start now later run took.asked took.one took.source took.sink left (known (Err stops.Memory) is)
+  pub took_left : result ≡ Err stops.Memory → LeavesCount now.script.counts_failures_alone now.script.faults later.script.faults → IsEnd start later endings.Memory
+  took_left is left = run_left reader next start now later run took.asked took.one took.source took.sink left took.bus (known (Err stops.Memory) is)
 
 -- ---- the end of reading
 
@@ -274,28 +275,33 @@ no_line answer (inl is) = (λ e. absurd (cc), λ e. absurd (cc))
 no_line answer (inr (inl is)) = (λ e. absurd (cc), λ e. absurd (cc))
 no_line answer (inr (inr is)) = (λ e. absurd (cc), λ e. absurd (cc))
 
-module _ (reader next : Reader) (start now : Stage) (after : SourceState) (run : HaveRun reader start now) where
+module _ (reader next : Reader) (start now : Stage) (after : SourceState) (run : HaveRun reader start now) (source : now.script.faults ≤ after.faults) where
   -- with the source as it is later
   abbrev later : Stage
   later = record now { script = after }
 
-  ends_so : (ending : Ending) → StopsReading ending run.passed start.script after → (ending ≡ endings.Done → LeavesCount start.script.counts_failures_alone start.script.faults after.faults)
-      → End start later ending
-  ends_so ending stops unswallowed m at =
-      let was = run.each m at in
-      (lines_asked run.passed, was.turns, was.gone, read_out run.passed stops refl was.told unswallowed (record { alone = was.alone; unswallowed = was.unswallowed }))
+  stops_so : (ending : Ending) → StopsReading ending run.passed start.script after → (ending ≡ endings.Done → LeavesCount start.script.counts_failures_alone start.script.faults after.faults)
+      → IsEnd start later ending
+  stops_so ending stops unswallowed = record {
+    ends = λ m at.
+        let was = run.each m at in
+        (lines_asked run.passed, was.turns, was.gone, read_out run.passed stops refl was.told unswallowed (record { alone = was.alone; unswallowed = was.unswallowed }));
+    source = (let so_far = run.source in omega (arith, so_far, source));
+    sink = run.sink;
+    bus = run.bus;
+  }
 
   stops_at : (answer : Taken) → (answer ≡ readers.End) ⊎ (answer ≡ readers.Fault) ⊎ (answer ≡ readers.TooMuch) → IsNext reader next now.script after answer → HasStopped answer run.passed start.script after
   stops_at answer ends is =
       let others = no_line answer ends in (read-stop run.passed start.script now.script after reader next answer run.read is others.0 others.1).2
 
-  pub run_done : LeavesCount now.script.counts_failures_alone now.script.faults after.faults → IsNext reader next now.script after readers.End → End start later endings.Done
-  run_done left is = ends_so endings.Done (stops_at readers.End (inl refl) is) (λ _ only. left (run.alone ∙ only) ∙ run.left only)
+  pub run_done : LeavesCount now.script.counts_failures_alone now.script.faults after.faults → IsNext reader next now.script after readers.End → IsEnd start later endings.Done
+  run_done left is = stops_so endings.Done (stops_at readers.End (inl refl) is) (λ _ only. left (run.alone ∙ only) ∙ run.left only)
 
   pub run_fails : IsNext reader next now.script after readers.Fault
-      → (reader.stop ≡ None → CountsExactly 1 now.script.counts_failures_alone now.script.faults after.faults) → End start later endings.ReadFault
+      → (reader.stop ≡ None → CountsExactly 1 now.script.counts_failures_alone now.script.faults after.faults) → IsEnd start later endings.ReadFault
   run_fails is once =
-      ends_so endings.ReadFault (stops_at readers.Fault (inr (inl refl)) is, rose, counted) (λ e. absurd (cc))
+      stops_so endings.ReadFault (stops_at readers.Fault (inr (inl refl)) is, rose, counted) (λ e. absurd (cc))
     where
       rose : Rose start.script.faults after.faults
       rose =
@@ -308,5 +314,5 @@ module _ (reader next : Reader) (start now : Stage) (after : SourceState) (run :
           let going = fault_going run.passed start.script now.script after reader next readers.Fault refl run.goes is in
           subst (λ n. CountsExactly 1 true n after.faults) (run.left only) (λ _. once going (run.alone ∙ only)) refl
 
-  pub run_too_much : IsNext reader next now.script after readers.TooMuch → End start later endings.TooMuch
-  run_too_much is = ends_so endings.TooMuch (stops_at readers.TooMuch (inr (inr refl)) is) (λ e. absurd (cc))
+  pub run_too_much : IsNext reader next now.script after readers.TooMuch → IsEnd start later endings.TooMuch
+  run_too_much is = stops_so endings.TooMuch (stops_at readers.TooMuch (inr (inr refl)) is) (λ e. absurd (cc))

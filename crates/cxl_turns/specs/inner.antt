@@ -1,3 +1,4 @@
 pub mod CarriedOut
 pub mod Counted
+pub mod Stages
 pub mod Written

@@ -6,6 +6,7 @@ ghost use Rattle.cxl_machine.specs.Scripts.{Asked, Turn};
 ghost use Rattle.cxl_session.specs.Standing.{Stands, ForEachMachine};
 ghost use Rattle.cxl_turns.specs.Endings.{EndsLines};
 ghost use Rattle.cxl_turns.specs.Going.{HasGoneOn};
+ghost use Rattle.cxl_turns.specs.inner.Stages.{IsEnd};
 
 use crate::carrying_out::{carry_out_line, tell_bad_line};
 use crate::endings::Ending;
@@ -81,13 +82,10 @@ fn carry_out_read<S: Source, K: Sink, R: Regs, M: Roll>(
 ) -> Ending
     requires stands { Stands session.old (R.state regs.old) (M.state media.old) }
     requires fresh { reader.old ≡ fresh_reader }
-    ensures ends { ForEachMachine session.old (R.state regs.old) (M.state media.old) (λ m. (asked : List Asked) × (turns : List Turn)
-        × HasGoneOn m asked turns session.new (R.state regs.old) (R.state regs.new) (M.state media.new)
-        × EndsLines m.settled.nodes asked turns (S.state script.old) (S.state script.new)
-        (K.state out.old) (K.state out.new) result) }
-    ensures source { (S.state script.old).faults ≤ (S.state script.new).faults }
-    ensures sink { (K.state out.old).faults ≤ (K.state out.new).faults }
-    ensures bus { (R.state regs.old).faults ≤ (R.state regs.new).faults }
+    ensures { IsEnd
+        record { session = session.old; regs = R.state regs.old; media = M.state media.old; script = S.state script.old; sink = K.state out.old }
+        record { session = session.new; regs = R.state regs.new; media = M.state media.new; script = S.state script.new; sink = K.state out.new }
+        result }
 {
     'lines: loop {
         let carried = match reader.next(script) {

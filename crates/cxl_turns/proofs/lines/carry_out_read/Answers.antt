@@ -4,7 +4,8 @@ use Rattle.cxl_io.specs.declared.line_reader.Taken.TheVariants as readers
 use Rattle.cxl_machine.specs.Turns.{machine_after}
 use Rattle.cxl_turns.specs.declared.stops.LineStop.{LineStop}
 use Rattle.cxl_turns.proofs.FirstLines.{still, falls}
-use Rattle.cxl_turns.proofs.Runs.{Stage, Took, took_one, run_begins, reads_line, reads_long, took_so, took_more, took_cut, took_left, run_done, run_fails, run_too_much}
+use Rattle.cxl_turns.specs.inner.Stages.{Stage}
+use Rattle.cxl_turns.proofs.Runs.{Took, took_one, run_begins, reads_line, reads_long, took_so, took_more, took_cut, took_left, run_done, run_fails, run_too_much}
 use Rattle.cxl_turns.proofs.lines.carry_out_read.Goals as goal
 use Rattle.cxl_turns.proofs.lines.carry_out_read.Goals.{in-Line, in-Long}
 
@@ -24,15 +25,15 @@ carry_out_line-carried-requires g c =
     let answered = c.lines.invariant.each c.requires.stands.0 c.requires.stands.1 in
     (machine_after c.requires.stands.0 answered.turns, answered.gone.at)
 
-pub returns-in-End-clause-ends : goal.returns-in-End-clause-ends
-returns-in-End-clause-ends g c =
-    run_done c.lines.reader c.next.new.self _ _ (g.S.Source.state c.next.new.source) c.lines.invariant (c.next.ensures.unswallowed (λ e. let is = c.in-End.is in absurd (cc))) c.in-End.ensures.next
+pub returns-in-End : goal.returns-in-End
+returns-in-End g c =
+    run_done c.lines.reader c.next.new.self _ _ (g.S.Source.state c.next.new.source) c.lines.invariant c.next.ensures.counts (c.next.ensures.unswallowed (λ e. let is = c.in-End.is in absurd (cc))) c.in-End.ensures.next
 
-pub returns-in-Fault-clause-ends : goal.returns-in-Fault-clause-ends
-returns-in-Fault-clause-ends g c = run_fails c.lines.reader c.next.new.self _ _ (g.S.Source.state c.next.new.source) c.lines.invariant c.in-Fault.ensures.next (c.in-Fault.ensures.counted refl)
+pub returns-in-Fault : goal.returns-in-Fault
+returns-in-Fault g c = run_fails c.lines.reader c.next.new.self _ _ (g.S.Source.state c.next.new.source) c.lines.invariant c.next.ensures.counts c.in-Fault.ensures.next (c.in-Fault.ensures.counted refl)
 
-pub returns-in-TooMuch-clause-ends : goal.returns-in-TooMuch-clause-ends
-returns-in-TooMuch-clause-ends g c = run_too_much c.lines.reader c.next.new.self _ _ (g.S.Source.state c.next.new.source) c.lines.invariant c.in-TooMuch.ensures.next
+pub returns-in-TooMuch : goal.returns-in-TooMuch
+returns-in-TooMuch g c = run_too_much c.lines.reader c.next.new.self _ _ (g.S.Source.state c.next.new.source) c.lines.invariant c.next.ensures.counts c.in-TooMuch.ensures.next
 
 pub lines-smaller : goal.lines-smaller
 lines-smaller g c =
@@ -81,8 +82,8 @@ lines-preserved g c =
       | in-Long w ↦ c.next.ensures.unswallowed (λ e. let is = w.in-Long.is in absurd (cc))
     ])
 
-pub returns-in-Err-Sink-clause-ends : goal.returns-in-Err-Sink-clause-ends
-returns-in-Err-Sink-clause-ends g c =
+pub returns-in-Err-Sink : goal.returns-in-Err-Sink
+returns-in-Err-Sink g c =
     let start : Stage = record {
       session = c.args.session.now;
       regs = g.R.Regs.state c.args.regs.now;
@@ -117,8 +118,8 @@ returns-in-Err-Sink-clause-ends g c =
     let which = rw c.in-Err-Sink.is at c.in-Err-Sink.field-0-is in
     took_cut c.lines.reader c.next.new.self start now later c.match-next.carried c.lines.invariant took (c.in-Err-Sink.is ∙ ap (λ (stop : LineStop). Err stop) which)
 
-pub returns-in-Err-Memory-clause-ends : goal.returns-in-Err-Memory-clause-ends
-returns-in-Err-Memory-clause-ends g c =
+pub returns-in-Err-Memory : goal.returns-in-Err-Memory
+returns-in-Err-Memory g c =
     let start : Stage = record {
       session = c.args.session.now;
       regs = g.R.Regs.state c.args.regs.now;
