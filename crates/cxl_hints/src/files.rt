@@ -8,10 +8,12 @@ use cxl_inputs::fault_node;
 use cxl_io::{Fetch, StdFetch};
 use cxl_topofile::{Key, Section, TableKey, TopoFault};
 use std::alloc::Global;
+use std::fmt::Display;
 use std::fs::{self, File};
 use std::io::{self, Eprint, ErrorKind};
 use std::rt::Files;
 use std::str;
+use toml::de::Error;
 
 /// The first file of the command that cannot be read, and why.
 pub(crate) fn bad_file<R: Eprint + Files>(rt: &R, words: &[String]) -> io::Result<()> {
@@ -75,7 +77,7 @@ pub(crate) fn bad_table<R: Eprint + Files>(
             "cxlplan: {name} is acpidump's text; acpixtract -s CEDT {name} makes a binary table of it"
         ),
         Some(Instead::Image) => say(rt, name, " is an image; the order is CEDT TOPO IMAGE"),
-        None => tell_table(rt, name, fault),
+        None => tell(rt, name, None, fault, order_of(fault)),
     }
 }
 
@@ -90,12 +92,25 @@ fn instead_of_table<R: Files>(rt: &R, alloc: Global, name: &str) -> Option<Inste
     None
 }
 
-fn tell_table<R: Eprint>(rt: &R, name: &str, fault: CedtFault) -> io::Result<()> {
+/// Where a table belongs, if the file is none.
+fn order_of(fault: CedtFault) -> &'static str {
     match fault {
-        CedtFault::Signature => eprintln!(rt;
-            "cxlplan: {name}: {fault}; the table comes first, as its bytes and not as text"
-        ),
-        _ => eprintln!(rt; "cxlplan: {name}: {fault}"),
+        CedtFault::Signature => "; the table comes first, as its bytes and not as text",
+        _ => "",
+    }
+}
+
+/// The fault of a file with the file's name, its line where that is known, and what helps.
+fn tell<R: Eprint, F: Copy + Display>(
+    rt: &R,
+    name: &str,
+    line: Option<usize>,
+    fault: F,
+    help: &str,
+) -> io::Result<()> {
+    match line {
+        Some(line) => eprintln!(rt; "cxlplan: {name}, line {line}: {fault}{help}"),
+        None => eprintln!(rt; "cxlplan: {name}: {fault}{help}"),
     }
 }
 
@@ -112,30 +127,16 @@ pub(crate) fn bad_topology<R: Eprint + Files>(
         TopoFault::Memory => say(rt, "", "memory ran out"),
         _ => match reread(rt, alloc, name) {
             Some(bytes) => bad_tables(rt, alloc, name, bytes.as_slice(), fault),
-            None => tell_fault(rt, name, None, fault),
+            None => tell(rt, name, None, fault, counted(fault)),
         },
-    }
-}
-
-/// A fault of a topology, with its line where that is known.
-fn tell_fault<R: Eprint>(
-    rt: &R,
-    name: &str,
-    line: Option<usize>,
-    fault: TopoFault,
-) -> io::Result<()> {
-    let counted = counted(fault);
-    match line {
-        Some(line) => eprintln!(rt; "cxlplan: {name}, line {line}: {fault} ({counted})"),
-        None => eprintln!(rt; "cxlplan: {name}: {fault} ({counted})"),
     }
 }
 
 /// From where the places count that a fault of a topology names.
 fn counted(fault: TopoFault) -> &'static str {
     match fault {
-        TopoFault::Tree(_) => "nodes count from 0: bridges, then switches, then endpoints",
-        _ => "tables of a kind count from 0",
+        TopoFault::Tree(_) => " (nodes count from 0: bridges, then switches, then endpoints)",
+        _ => " (tables of a kind count from 0)",
     }
 }
 
@@ -148,23 +149,18 @@ fn bad_tables<R: Eprint>(
     fault: TopoFault,
 ) -> io::Result<()> {
     let Ok(text) = str::from_utf8(bytes) else {
-        return tell_fault(rt, name, None, fault);
+        return tell(rt, name, None, fault, counted(fault));
     };
     match unknown_key(text, fault) {
-        Some((spot, table)) => tell_unknown(rt, name, spot, table),
+        Some((spot, none)) => tell(rt, name, Some(spot.line), spot.key, none),
         None => {
             let line = line_of_fault(alloc, text, fault)?;
-            tell_fault(rt, name, line, fault)
+            tell(rt, name, line, fault, counted(fault))
         }
     }
 }
 
-fn tell_unknown<R: Eprint>(rt: &R, name: &str, spot: Spot<'_>, table: &str) -> io::Result<()> {
-    let Spot { line, key } = spot;
-    eprintln!(rt; "cxlplan: {name}, line {line}: {key} is no key of {table}")
-}
-
-/// The key that is none of its table's, and what kind of table that is.
+/// The key that is none of its table's, and what says so.
 fn unknown_key(text: &str, fault: TopoFault) -> Option<(Spot<'_>, &'static str)> {
     let TopoFault::Key(place) = fault else {
         return None;
@@ -174,15 +170,15 @@ fn unknown_key(text: &str, fault: TopoFault) -> Option<(Spot<'_>, &'static str)>
     }
     let above = line_above(text, place.section, place.index)?;
     let spot = key_below(text, above, Sought::Unknown(place.section))?;
-    Some((spot, table_name(place.section)))
+    Some((spot, no_key_of(place.section)))
 }
 
-fn table_name(section: Section) -> &'static str {
+fn no_key_of(section: Section) -> &'static str {
     match section {
-        Section::Top => "the top table",
-        Section::Bridge => "a bridge",
-        Section::Switch => "a switch",
-        Section::Endpoint => "an endpoint",
+        Section::Top => " is no key of the top table",
+        Section::Bridge => " is no key of a bridge",
+        Section::Switch => " is no key of a switch",
+        Section::Endpoint => " is no key of an endpoint",
     }
 }
 
@@ -226,23 +222,29 @@ fn bad_text<R: Eprint>(rt: &R, alloc: Global, name: &str, text: &[u8]) -> io::Re
     if text.starts_with(b"CEDT") || text.starts_with(b"CXLHDM01") {
         return say(rt, name, " is no topology; the order is CEDT TOPO IMAGE");
     }
-    let Err(error) = toml::table_from_slice(alloc, text) else {
-        return say(rt, name, " is no TOML document");
-    };
-    let message = error.message();
+    match toml::table_from_slice(alloc, text) {
+        Err(error) => tell(rt, name, line_of_error(text, &error), error.message(), ""),
+        Ok(_) => say(rt, name, " is no TOML document"),
+    }
+}
+
+fn line_of_error(text: &[u8], error: &Error) -> Option<usize> {
     match error.span() {
-        Some(span) => {
-            let line = line_of(text, span.start);
-            eprintln!(rt; "cxlplan: {name}, line {line}: {message}")
-        }
-        None => eprintln!(rt; "cxlplan: {name}: {message}"),
+        Some(span) => Some(line_of(text, span.start)),
+        None => None,
     }
 }
 
 /// The fault of an image with the file's name.
 pub(crate) fn bad_image<R: Eprint>(rt: &R, words: &[String], fault: ImageFault) -> io::Result<()> {
     let name = command_word(words, 3);
-    eprintln!(rt; "cxlplan: {name}: {fault}; it has to be captured with its topology")
+    tell(
+        rt,
+        name,
+        None,
+        fault,
+        "; it has to be captured with its topology",
+    )
 }
 
 /// The bytes of an ordinary file. What comes by a pipe is gone.

@@ -36,7 +36,12 @@ pub fn hint<R: Eprint + Files>(
 
 /// One line: what it is about, as a file's name or a word, and what is to be said of it.
 fn say<R: Eprint>(rt: &R, about: &str, text: &str) -> io::Result<()> {
-    eprintln!(rt; "cxlplan: {about}{text}")
+    say_more(rt, about, text, "")
+}
+
+/// The same with more to be said.
+fn say_more<R: Eprint>(rt: &R, about: &str, text: &str, more: &str) -> io::Result<()> {
+    eprintln!(rt; "cxlplan: {about}{text}{more}")
 }
 
 /// Whether standard output is a pipe, whose writes fail only where nobody reads it any more.

@@ -1,6 +1,6 @@
 //! Why words are no command.
 
-use crate::say;
+use crate::{say, say_more};
 use cxl_io::{NumFault, read_number};
 use cxl_script::{BadLine, LineFault, Why, read_command};
 use std::alloc::Global;
@@ -26,10 +26,8 @@ pub(crate) fn bad_words<R: Eprint>(rt: &R, alloc: Global, words: &[String]) -> i
 /// The form of a command, or of the one that a word which is none stands for.
 fn no_command<R: Eprint>(rt: &R, verb: &str) -> io::Result<()> {
     match (form_of(verb), meant_by(verb)) {
-        (Some(form), _) => eprintln!(rt; "cxlplan: the form is cxlplan {form}; see cxlplan --help"),
-        (None, Some(form)) => {
-            eprintln!(rt; "cxlplan: {verb} is no command; the form is cxlplan {form}")
-        }
+        (Some(form), _) => say_more(rt, "the form is cxlplan ", form, "; see cxlplan --help"),
+        (None, Some(form)) => say_more(rt, verb, " is no command; the form is cxlplan ", form),
         (None, None) => say(rt, verb, " is no command; see cxlplan --help"),
     }
 }
