@@ -149,8 +149,7 @@ fn carried_out<R: Regs, M: Roll>(
     told(alloc, n, counts, checked)
 }
 
-/// Carries out the commands of the number over an open session, each of them made when the one before it is done, and counts
-/// what they are answered.
+/// Carries out the commands of the number over an open session, and counts what they are answered.
 fn carry_out_made<R: Regs, M: Roll>(
     alloc: Global,
     n: u32,
@@ -168,21 +167,36 @@ fn carry_out_made<R: Regs, M: Roll>(
         session.new (R.state regs.old) (R.state regs.new) (M.state media.new))) }
     ensures bus { (R.state regs.old).faults ≤ (R.state regs.new).faults }
 {
-    made_systems_are_sound();
-    let mut counts = Counts::none();
     let mut command = Command::Abort;
     let mut reply = Reply::NothingPending;
+    carry_out_each(alloc, n, session, &mut command, &mut reply, regs, media)
+}
+
+/// Does so, each command made in one place when the one before it is done, and each reply in another.
+fn carry_out_each<R: Regs, M: Roll>(
+    alloc: Global,
+    n: u32,
+    session: &mut Session,
+    command: &mut Command,
+    reply: &mut Reply,
+    regs: &mut R,
+    media: &mut M,
+) -> Result<Counts, Memory>
+    requires few { n ≤ 32 }
+    requires stands { Stands session.old (R.state regs.old) (M.state media.old) }
+    ensures all { IfOk result (λ counts. ForEachMachine session.old (R.state regs.old) (M.state media.old) (λ m. (turns : List Turn)
+        × HasGoneOn m (made_asked n) turns session.new (R.state regs.old) (R.state regs.new) (M.state media.new)
+        × (counts ≡ counts_of (map (λ (turn : Turn). turn.reply) turns)))) }
+    ensures some { OnErr result (ForEachMachine session.old (R.state regs.old) (M.state media.old) (λ m. (count : ℕ) × (turns : List Turn)
+        × HasGoneOn m (take count (made_asked n)) turns
+        session.new (R.state regs.old) (R.state regs.new) (M.state media.new))) }
+    ensures bus { (R.state regs.old).faults ≤ (R.state regs.new).faults }
+{
+    made_systems_are_sound();
+    let mut counts = Counts::none();
     for k in 0..command_count(n) {
-        make_command(alloc, n, k, &mut command)?;
-        carry_out_counted(
-            alloc,
-            session,
-            &command,
-            &mut reply,
-            &mut counts,
-            regs,
-            media,
-        )?;
+        make_command(alloc, n, k, command)?;
+        carry_out_counted(alloc, session, command, reply, &mut counts, regs, media)?;
     }
     Ok(counts)
 }

@@ -5,7 +5,7 @@ use Rattle.cxl_gen.proofs.Growing.{take_next}
 use Rattle.cxl_turns.proofs.Counting.{none_counted, one_counted, all_counted, stands_there}
 use Rattle.cxl_shell.proofs.Generated.{next_ranged, before_next, at_next}
 use Rattle.cxl_commands.proofs.Results.{on_err_from}
-use Rattle.cxl_shell.proofs.commands.generated.carry_out_made.Goals as goal
+use Rattle.cxl_shell.proofs.commands.generated.carry_out_each.Goals as goal
 
 pub loop-k-init : goal.loop-k-init
 loop-k-init g c = record {

@@ -2,7 +2,7 @@ use Rattle.std.proofs.Common.{◌≤◌}
 use Rattle.cxl_gen.specs.Made.{made_commands}
 use Rattle.cxl_turns.specs.Counts.{AreWithin}
 use Rattle.cxl_turns.proofs.Counting.{AreCounted}
-use Rattle.cxl_shell.proofs.commands.generated.carry_out_made.Given as goal
+use Rattle.cxl_shell.proofs.commands.generated.carry_out_each.Given as goal
 
 -- the commands so far are carried out and counted
 abbrev pub invariant-loop-k : goal.invariant-loop-k
