@@ -1,5 +1,5 @@
 -- What holds of each run: of those that end by their files, and of those that left their files behind.
-use Rattle.std.proofs.Common.{◌≡◌, ◌⊎◌, ℕ, true, false, List, refl, sym, ap, ◌∙◌, inl, inr}
+use Rattle.std.proofs.Common.{◌≡◌, ◌⊎◌, ℕ, true, false, List, refl, sym, ap, subst, ◌∙◌, inl, inr}
 use Rattle.cxl_enc.specs.Faults.{Rose}
 use Rattle.cxl_inputs.specs.Ends.{Ends}
 use Rattle.cxl_inputs.specs.Outcome.{Outcome}
@@ -29,6 +29,10 @@ use Rattle.cxl_shell.specs.commands.Gen.{gen_told}
 use Rattle.cxl_commands.specs.declared.form.HostAsk.TheVariants as host_asks
 use Rattle.cxl_commands.specs.declared.form.ResetAsk.TheVariants as reset_asks
 use Rattle.cxl_commands.specs.declared.form.WordsAsk.TheVariants as plain_asks
+
+-- the same run, by the status that it gives
+pub with_status : (form : Form) (old new : Outside) (before after : Devices) (status other : Status) → IsRun form old new before after status → status ≡ other → IsRun form old new before after other
+with_status form old new before after status other run same = subst (IsRun form old new before after) same run
 
 -- such a status comes behind the files; status 6 has its cause
 pub record IsLate (status : Status) (old new : SinkState) : Type 0 where
