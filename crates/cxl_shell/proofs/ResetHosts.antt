@@ -8,6 +8,7 @@ use Rattle.cxl_image.specs.Images.{reset_blocks}
 use Rattle.cxl_inputs.specs.ResetHost.{reset_host_of}
 use Rattle.cxl_model.specs.Listed.{AreRegionsByBase, region_limit}
 use Rattle.cxl_model.specs.Regions.{region_range}
+use Rattle.cxl_model.specs.System.{system_of}
 use Rattle.cxl_model.specs.declared.found.Found.{Found}
 use Rattle.cxl_regs.specs.Reading.{has_range}
 use Rattle.cxl_regs.specs.Registers.{Registers, reset_decoder}
@@ -15,6 +16,7 @@ use Rattle.cxl_regs.specs.declared.reading.Range.{Range}
 use Rattle.cxl_opening.specs.Opening.{HasRegions}
 use Rattle.cxl_topo.specs.Tree.{Tree}
 use Rattle.cxl_topo.specs.declared.node.Node.{Node}
+use Rattle.cxl_window.specs.Fields.{WindowFields}
 
 none_committed : (r : Range) (count : ℕ) → list_any (has_range r) (replicate count reset_decoder) ≡ false
 none_committed r zero = refl
@@ -26,7 +28,18 @@ none_serves r [] (suc n) = refl
 none_serves r (node ∷ nodes) zero = none_committed r (decoders_of (decoders_code node.cap))
 none_serves r (node ∷ nodes) (suc n) = none_serves r nodes n
 
--- so there are never too many
+-- so the list of all of them is empty
+pub none_listed : (tree : Tree) (windows : List WindowFields) → AreRegionsByBase (system_of (reset_blocks tree.nodes) tree windows) []
+none_listed tree windows = record {
+  listed = record {
+    each = λ k d within. absurd (omega arith);
+    all = λ r committed. let clash : false ≡ true = sym (none_serves r tree.nodes committed.0) ∙ committed.1 in absurd (cc);
+    once = λ i j d less within. absurd (omega arith);
+  };
+  rising = λ i j d less within. absurd (omega arith);
+}
+
+-- and there are never too many
 pub no_regions : (table : CedtFields) (tree : Tree) (n : ℕ) → HasRegions (reset_host_of table tree) n → region_limit < n → ⊥
 no_regions table tree n has many = at has.1.0 has.1.1 has.1.2
   where

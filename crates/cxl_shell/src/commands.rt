@@ -16,7 +16,7 @@ use cxl_inputs::{Status, fetch_host, fetch_reset_host, finish};
 use cxl_io::{Fetch, Sink, Source};
 use cxl_media::Roll;
 use generated::generated;
-use script::{script, script_from_image};
+use script::{script_from_image, script_over_regions};
 use std::alloc::Global;
 
 /// Carries out what the words ask for, and writes what it comes to.
@@ -49,7 +49,10 @@ pub(crate) fn carry_out<F: Fetch, S: Source, K: Sink, R: Regs, M: Roll>(
         Form::OfResetHost(cedt, topo, ask) => match ask {
             ResetAsk::Plan(create) => finish(plan(alloc, cedt, topo, &create, files), out),
             ResetAsk::Script => match fetch_reset_host(alloc, cedt, topo, files) {
-                Ok(host) => script(alloc, host, source, out, regs, media),
+                // after reset there is no region
+                Ok(host) => {
+                    script_over_regions(alloc, host, Vec::new(alloc), source, out, regs, media)
+                }
                 Err(stop) => finish(Err(stop), out),
             },
         },

@@ -19,7 +19,7 @@ use cxl_commands::checked;
 use cxl_inputs::{Outcome, OwnedHost, Status, Stop, finish};
 use cxl_io::{Sink, Source};
 use cxl_media::Roll;
-use cxl_model::{Found, accepted_or_breach};
+use cxl_model::Found;
 use cxl_session::{OpenFault, Session};
 use cxl_turns::{Ending, carry_out_lines};
 use std::alloc::Global;
@@ -49,39 +49,9 @@ pub(crate) fn script_from_image<S: Source, K: Sink, R: Regs, M: Roll>(
     }
 }
 
-/// Carries out the commands of a script over a host whose image is accepted.
-pub(crate) fn script<S: Source, K: Sink, R: Regs, M: Roll>(
-    alloc: Global,
-    host: OwnedHost,
-    source: &mut S,
-    out: &mut K,
-    regs: &mut R,
-    media: &mut M,
-) -> Status
-    requires system { IsSystem (system_of host.image host.topo host.windows.items) }
-    requires accepted { IsAccepted (system_of host.image host.topo host.windows.items) }
-    ensures ends { EndsOver (system_of host.image host.topo host.windows.items) host.topo.frames
-        (devices (S.state source.old) (R.state regs.old) (M.state media.old))
-        (devices (S.state source.new) (R.state regs.new) (M.state media.new))
-        (K.state out.old) (K.state out.new) result }
-    ensures source { (S.state source.old).faults ≤ (S.state source.new).faults }
-    ensures sink { (K.state out.old).faults ≤ (K.state out.new).faults }
-    ensures bus { (R.state regs.old).faults ≤ (R.state regs.new).faults }
-{
-    accepted_or_breach();
-    let OwnedHost {
-        topo,
-        image,
-        windows,
-    } = host;
-    match Session::open(alloc, topo, windows, image, regs, media) {
-        Ok(mut session) => over_session(alloc, &mut session, source, out, regs, media),
-        Err(fault) => finish(unopened(fault), out),
-    }
-}
-
-/// The same over a host whose image is accepted and has these regions, so that it is not judged again.
-fn script_over_regions<S: Source, K: Sink, R: Regs, M: Roll>(
+/// Carries out the commands of a script over a host whose image is accepted and has these regions, so that it is not judged
+/// again.
+pub(crate) fn script_over_regions<S: Source, K: Sink, R: Regs, M: Roll>(
     alloc: Global,
     host: OwnedHost,
     regions: Vec<Found>,

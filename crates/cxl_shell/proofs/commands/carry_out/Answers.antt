@@ -3,6 +3,7 @@ use Rattle.cxl_shell.specs.Devices.{devices}
 use Rattle.cxl_commands.specs.Form.{Plan, OfWords}
 use Rattle.cxl_commands.specs.Outside.{outside}
 use Rattle.cxl_shell.proofs.Generated.{run-made}
+use Rattle.cxl_shell.proofs.ResetHosts.{none_listed}
 use Rattle.cxl_shell.proofs.Scripts.{run-left, from_reset, reset-unread, from_image, image-unread}
 use Rattle.cxl_commands.proofs.Stops.{asks_nothing, run-ended, run-finished}
 use Rattle.cxl_shell.proofs.commands.carry_out.Goals as goal
@@ -15,13 +16,18 @@ returns-in-Plan-clause-run g c =
     let arm = c.in-OfResetHost in
     rw (arm.is, c.in-Plan.is) (run-left _ _ _ _ _ (Plan arm.cedt.now arm.topo.now c.in-Plan.create) (run-finished (Plan arm.cedt.now arm.topo.now c.in-Plan.create) _ _ _ refl c.plan.result c.plan.ensures.comes c.finish.ensures.finishes) refl)
 
+pub script_over_regions-requires-clause-listed : goal.script_over_regions-requires-clause-listed
+script_over_regions-requires-clause-listed g c =
+    let host = c.in-Ok.host in
+    rw (c.in-Ok.ensures.reset, c.new.ensures.items) (none_listed host.topo host.windows.items)
+
 pub returns-in-Ok-clause-run : goal.returns-in-Ok-clause-run
 returns-in-Ok-clause-run g c =
     let arm = c.in-OfResetHost in
     let host = c.in-Ok.host in
     let read = c.in-Ok.ensures.read in
-    rw (arm.is, c.in-Script.is) (from_reset (outside (g.F.Fetch.state c.args.files.now) (g.K.Sink.state c.args.out.now)) (outside (g.F.Fetch.state c.fetch_reset_host.new.files) (g.K.Sink.state c.script.new.out)) (devices (g.S.Source.state c.args.source.now) (g.R.Regs.state c.args.regs.now) (g.M.Media.state c.args.media.now)) (devices (g.S.Source.state c.script.new.source) (g.R.Regs.state c.script.new.regs) (g.M.Media.state c.script.new.media)) c.script.result
-    arm.cedt.now arm.topo.now read.0 host.topo host.image host.windows.items read.1 read.2 c.in-Ok.ensures.reset c.in-Ok.ensures.asked c.script.ensures.ends)
+    rw (arm.is, c.in-Script.is) (from_reset (outside (g.F.Fetch.state c.args.files.now) (g.K.Sink.state c.args.out.now)) (outside (g.F.Fetch.state c.fetch_reset_host.new.files) (g.K.Sink.state c.script_over_regions.new.out)) (devices (g.S.Source.state c.args.source.now) (g.R.Regs.state c.args.regs.now) (g.M.Media.state c.args.media.now)) (devices (g.S.Source.state c.script_over_regions.new.source) (g.R.Regs.state c.script_over_regions.new.regs) (g.M.Media.state c.script_over_regions.new.media)) c.script_over_regions.result
+    arm.cedt.now arm.topo.now read.0 host.topo host.image host.windows.items read.1 read.2 c.in-Ok.ensures.reset c.in-Ok.ensures.asked c.script_over_regions.ensures.ends)
 
 pub returns-in-Err-clause-run : goal.returns-in-Err-clause-run
 returns-in-Err-clause-run g c =
