@@ -1,5 +1,5 @@
 use Rattle.std.proofs.Common.{[], ◌∷◌, Err, ap, ◌∙◌}
-use Rattle.std.proofs.lemmas.Result.{err_from_is_err_and}
+use Rattle.std.proofs.lemmas.Result.{IfOk-from_err, err_from_is_err_and}
 use Rattle.cxl_inputs.specs.File.{AsksForSome}
 use Rattle.cxl_inputs.specs.ResetHost.{HasNoResetHost, no_table, no_tree}
 use Rattle.cxl_inputs.specs.Table.{HasNoTable}
@@ -7,6 +7,18 @@ use Rattle.cxl_inputs.specs.Topology.{HasNoTree}
 use Rattle.cxl_inputs.proofs.Hosts.{asks_behind, tree_behind, first_of_two, second_of_two}
 use Rattle.cxl_inputs.proofs.Stops.{stopped-behind}
 use Rattle.cxl_inputs.proofs.both.fetch_both.Goals as goal
+
+pub returns-in_err-table-clause-read : goal.returns-in_err-table-clause-read
+returns-in_err-table-clause-read g c = IfOk-from_err c.from_residual.result _ c.from_residual.ensures.0
+
+pub returns-in_err-table-clause-asked : goal.returns-in_err-table-clause-asked
+returns-in_err-table-clause-asked g c = IfOk-from_err c.from_residual.result _ c.from_residual.ensures.0
+
+pub returns-in_err-topo-clause-read : goal.returns-in_err-topo-clause-read
+returns-in_err-topo-clause-read g c = IfOk-from_err c.from_residual-in_err-topo.result _ c.from_residual-in_err-topo.ensures.0
+
+pub returns-in_err-topo-clause-asked : goal.returns-in_err-topo-clause-asked
+returns-in_err-topo-clause-asked g c = IfOk-from_err c.from_residual-in_err-topo.result _ c.from_residual-in_err-topo.ensures.0
 
 pub returns-in_err-table-clause-stops : goal.returns-in_err-table-clause-stops
 returns-in_err-table-clause-stops g c =

@@ -1,5 +1,5 @@
 use Rattle.std.proofs.Common.{[], ◌∷◌, Err, ap, ◌∙◌}
-use Rattle.std.proofs.lemmas.Result.{err_from_is_err_and}
+use Rattle.std.proofs.lemmas.Result.{IfOk-from_err, err_from_is_err_and}
 use Rattle.cxl_inputs.specs.File.{AsksForSome}
 use Rattle.cxl_inputs.specs.Host.{HasNoHost, no_image}
 use Rattle.cxl_inputs.specs.Image.{HasNoImage}
@@ -7,6 +7,33 @@ use Rattle.cxl_inputs.specs.ResetHost.{HasNoResetHost}
 use Rattle.cxl_inputs.proofs.Hosts.{asks_behind, host_behind, image_behind, first_of_three, third_of_three}
 use Rattle.cxl_inputs.proofs.Stops.{stopped-behind, stop-memory}
 use Rattle.cxl_inputs.proofs.host.fetch_host.Goals as goal
+
+pub returns-in_err-table-clause-read : goal.returns-in_err-table-clause-read
+returns-in_err-table-clause-read g c = IfOk-from_err c.from_residual.result _ c.from_residual.ensures.0
+
+pub returns-in_err-table-clause-system : goal.returns-in_err-table-clause-system
+returns-in_err-table-clause-system g c = IfOk-from_err c.from_residual.result _ c.from_residual.ensures.0
+
+pub returns-in_err-table-clause-asked : goal.returns-in_err-table-clause-asked
+returns-in_err-table-clause-asked g c = IfOk-from_err c.from_residual.result _ c.from_residual.ensures.0
+
+pub returns-in_err-image-clause-read : goal.returns-in_err-image-clause-read
+returns-in_err-image-clause-read g c = IfOk-from_err c.from_residual-in_err-image.result _ c.from_residual-in_err-image.ensures.0
+
+pub returns-in_err-image-clause-system : goal.returns-in_err-image-clause-system
+returns-in_err-image-clause-system g c = IfOk-from_err c.from_residual-in_err-image.result _ c.from_residual-in_err-image.ensures.0
+
+pub returns-in_err-image-clause-asked : goal.returns-in_err-image-clause-asked
+returns-in_err-image-clause-asked g c = IfOk-from_err c.from_residual-in_err-image.result _ c.from_residual-in_err-image.ensures.0
+
+pub returns-in_err-host-clause-read : goal.returns-in_err-host-clause-read
+returns-in_err-host-clause-read g c = IfOk-from_err c.from_residual-in_err-host.result _ c.from_residual-in_err-host.ensures.0
+
+pub returns-in_err-host-clause-system : goal.returns-in_err-host-clause-system
+returns-in_err-host-clause-system g c = IfOk-from_err c.from_residual-in_err-host.result _ c.from_residual-in_err-host.ensures.0
+
+pub returns-in_err-host-clause-asked : goal.returns-in_err-host-clause-asked
+returns-in_err-host-clause-asked g c = IfOk-from_err c.from_residual-in_err-host.result _ c.from_residual-in_err-host.ensures.0
 
 pub returns-in_err-table-clause-stops : goal.returns-in_err-table-clause-stops
 returns-in_err-table-clause-stops g c =

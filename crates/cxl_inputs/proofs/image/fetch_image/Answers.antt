@@ -1,5 +1,15 @@
+use Rattle.std.proofs.lemmas.Result.{IfOk-from_err}
 use Rattle.cxl_inputs.proofs.Images.{bad_image-stops}
 use Rattle.cxl_inputs.proofs.image.fetch_image.Goals as goal
+
+pub returns-in_err-bytes-clause-image : goal.returns-in_err-bytes-clause-image
+returns-in_err-bytes-clause-image g c = IfOk-from_err c.from_residual.result _ c.from_residual.ensures.0
+
+pub returns-in_err-bytes-clause-caps : goal.returns-in_err-bytes-clause-caps
+returns-in_err-bytes-clause-caps g c = IfOk-from_err c.from_residual.result _ c.from_residual.ensures.0
+
+pub returns-in_err-bytes-clause-asked : goal.returns-in_err-bytes-clause-asked
+returns-in_err-bytes-clause-asked g c = IfOk-from_err c.from_residual.result _ c.from_residual.ensures.0
 
 pub returns-clause-stops : goal.returns-clause-stops
 returns-clause-stops g c =
