@@ -1,5 +1,12 @@
+use Rattle.std.proofs.lemmas.Result.{IfOk-from_err}
 use Rattle.cxl_inputs.proofs.Tables.{faulty-stops}
 use Rattle.cxl_inputs.proofs.table.fetch_table.Goals as goal
+
+pub returns-in_err-bytes-clause-table : goal.returns-in_err-bytes-clause-table
+returns-in_err-bytes-clause-table g c = IfOk-from_err c.from_residual.result _ c.from_residual.ensures.0
+
+pub returns-in_err-bytes-clause-asked : goal.returns-in_err-bytes-clause-asked
+returns-in_err-bytes-clause-asked g c = IfOk-from_err c.from_residual.result _ c.from_residual.ensures.0
 
 pub returns-in-Err-clause-stops : goal.returns-in-Err-clause-stops
 returns-in-Err-clause-stops g c =

@@ -1,5 +1,12 @@
+use Rattle.std.proofs.lemmas.Result.{IfOk-from_err}
 use Rattle.cxl_inputs.proofs.Topologies.{bad_tree-stops}
 use Rattle.cxl_inputs.proofs.topology.fetch_topology.Goals as goal
+
+pub returns-in_err-bytes-clause-tree : goal.returns-in_err-bytes-clause-tree
+returns-in_err-bytes-clause-tree g c = IfOk-from_err c.from_residual.result _ c.from_residual.ensures.0
+
+pub returns-in_err-bytes-clause-asked : goal.returns-in_err-bytes-clause-asked
+returns-in_err-bytes-clause-asked g c = IfOk-from_err c.from_residual.result _ c.from_residual.ensures.0
 
 pub returns-clause-stops : goal.returns-clause-stops
 returns-clause-stops g c =
