@@ -1,3 +1,4 @@
+use Rattle.std.proofs.lemmas.Result.{IfOk-from_err}
 use Rattle.std.proofs.Common.{arith, refl, sym, ap, ◌∙◌}
 use Rattle.std.proofs.lemmas.Bool.Decides.{nat_tests}
 use Rattle.cxl_commands.specs.Form.{create_on_line}
@@ -5,6 +6,9 @@ use Rattle.cxl_commands.proofs.Results.{on_err_from}
 use Rattle.cxl_commands.proofs.WordCounts.{plan_form-few, plan_form-many, plan_form-three, plan_takes_memory}
 use Rattle.cxl_commands.proofs.form.plan_form.Goals as goal
 use Rattle.cxl_commands.proofs.form.plan_form.Goals.{in_default-via-then-words-lt3, in_default-via-else-words-lt3+else-words-lt4}
+
+pub returns-in_err-create-in-len3-clause-form : goal.returns-in_err-create-in-len3-clause-form
+returns-in_err-create-in-len3-clause-form c = IfOk-from_err c.from_residual.result _ c.from_residual.ensures.0
 
 pub returns-in_err-create-in-len3-clause-memory : goal.returns-in_err-create-in-len3-clause-memory
 returns-in_err-create-in-len3-clause-memory c =

@@ -1,3 +1,4 @@
+use Rattle.std.proofs.lemmas.Result.{IfOk-from_err}
 use Rattle.std.proofs.Common.{◌+◌, map, sym, subst, ◌∙◌, inl, inr, refl, arith}
 use Rattle.cxl_enc.specs.Faults.{Rose, LeavesCount, CountsExactly}
 use Rattle.cxl_enc.proofs.Options.{on_ok_at, on_err_at}
@@ -8,6 +9,9 @@ use Rattle.cxl_commands.proofs.InBlocks.{blocks-written, blocks-flushed, blocks-
 use Rattle.cxl_commands.proofs.Regions.{blocks-region, length-region_lines, all_regions}
 use Rattle.cxl_commands.proofs.Results.{on_err_from, counted_on}
 use Rattle.cxl_commands.proofs.commands.check.write_regions.Goals as goal
+
+pub returns-in_err-put_found-clause-ends : goal.returns-in_err-put_found-clause-ends
+returns-in_err-put_found-clause-ends g c = IfOk-from_err c.from_residual.result _ c.from_residual.ensures.0
 
 pub returns-in_err-put_found-clause-behind : goal.returns-in_err-put_found-clause-behind
 returns-in_err-put_found-clause-behind g c =

@@ -1,5 +1,5 @@
 use Rattle.std.proofs.Common.{Err, ap, ◌∙◌}
-use Rattle.std.proofs.lemmas.Result.{err_from_is_err_and}
+use Rattle.std.proofs.lemmas.Result.{IfOk-from_err, err_from_is_err_and}
 use Rattle.cxl_inputs.proofs.Stops.{stop-memory, asks_one}
 use Rattle.cxl_commands.proofs.commands.list.judged.Goals as goal
 
@@ -15,24 +15,24 @@ returns-in_err-table-clause-stops g c =
 
 pub returns-in_err-table-clause-table : goal.returns-in_err-table-clause-table
 returns-in_err-table-clause-table g c =
-    let p = err_from_is_err_and c.from_residual.result c.from_residual.ensures.1 in rw p.1 tt
+    IfOk-from_err c.from_residual.result _ c.from_residual.ensures.0
 
 pub returns-in_err-table-clause-windows : goal.returns-in_err-table-clause-windows
 returns-in_err-table-clause-windows g c =
-    let p = err_from_is_err_and c.from_residual.result c.from_residual.ensures.1 in rw p.1 tt
+    IfOk-from_err c.from_residual.result _ c.from_residual.ensures.0
 
 pub returns-in_err-table-clause-asked : goal.returns-in_err-table-clause-asked
 returns-in_err-table-clause-asked g c =
-    let p = err_from_is_err_and c.from_residual.result c.from_residual.ensures.1 in rw p.1 tt
+    IfOk-from_err c.from_residual.result _ c.from_residual.ensures.0
 
 pub returns-in_err-windows-clause-table : goal.returns-in_err-windows-clause-table
 returns-in_err-windows-clause-table g c =
-    let p = err_from_is_err_and c.from_residual-in_err-windows.result c.from_residual-in_err-windows.ensures.1 in rw p.1 tt
+    IfOk-from_err c.from_residual-in_err-windows.result _ c.from_residual-in_err-windows.ensures.0
 
 pub returns-in_err-windows-clause-windows : goal.returns-in_err-windows-clause-windows
 returns-in_err-windows-clause-windows g c =
-    let p = err_from_is_err_and c.from_residual-in_err-windows.result c.from_residual-in_err-windows.ensures.1 in rw p.1 tt
+    IfOk-from_err c.from_residual-in_err-windows.result _ c.from_residual-in_err-windows.ensures.0
 
 pub returns-in_err-windows-clause-asked : goal.returns-in_err-windows-clause-asked
 returns-in_err-windows-clause-asked g c =
-    let p = err_from_is_err_and c.from_residual-in_err-windows.result c.from_residual-in_err-windows.ensures.1 in rw p.1 tt
+    IfOk-from_err c.from_residual-in_err-windows.result _ c.from_residual-in_err-windows.ensures.0

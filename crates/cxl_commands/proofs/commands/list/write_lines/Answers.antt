@@ -1,3 +1,4 @@
+use Rattle.std.proofs.lemmas.Result.{IfOk-from_err}
 use Rattle.std.proofs.Common.{◌≡◌, ◌+◌, List, [], ◌∷◌, ◌++◌, length, sym, ap, subst, ◌∙◌, inl, inr, refl, arith}
 use Rattle.std.specs.List.{filter_map}
 use Rattle.cxl_enc.specs.Faults.{Rose, LeavesCount, CountsExactly}
@@ -13,6 +14,9 @@ use Rattle.cxl_commands.proofs.ListLines.{length-list_lines}
 use Rattle.cxl_commands.proofs.ListedTo.{IsListedTo, stands_next, stands_within, place_there, place_left, listed_next, listed_none, listed_all}
 use Rattle.cxl_commands.proofs.Results.{on_err_from, counted_on}
 use Rattle.cxl_commands.proofs.commands.list.write_lines.Goals as goal
+
+pub returns-in_err-put_line-clause-ends : goal.returns-in_err-put_line-clause-ends
+returns-in_err-put_line-clause-ends g c = IfOk-from_err c.from_residual.result _ c.from_residual.ensures.0
 
 pub loop-item-init : goal.loop-item-init
 loop-item-init g c =
