@@ -1,7 +1,11 @@
+use Rattle.std.proofs.lemmas.Result.{IfOk-from_err}
 use Rattle.std.specs.List.{flat_map}
 use Rattle.cxl_reply.specs.Texts.{extent_text}
 use Rattle.cxl_text.proofs.Lines.{item_step, all_items}
 use Rattle.cxl_text.proofs.places.put_extents.Goals as goal
+
+pub returns-in_err-put_extent : goal.returns-in_err-put_extent
+returns-in_err-put_extent c = IfOk-from_err c.from_residual.result _ c.from_residual.ensures.0
 
 pub loop-extent-preserved : goal.loop-extent-preserved
 loop-extent-preserved c =

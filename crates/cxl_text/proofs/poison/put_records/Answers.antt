@@ -1,7 +1,11 @@
+use Rattle.std.proofs.lemmas.Result.{IfOk-from_err}
 use Rattle.std.proofs.Common.{arith}
 use Rattle.cxl_reply.specs.Texts.{record_text}
 use Rattle.cxl_text.proofs.Lines.{pair_step}
 use Rattle.cxl_text.proofs.poison.put_records.Goals as goal
+
+pub returns-in_err-put_record : goal.returns-in_err-put_record
+returns-in_err-put_record c = IfOk-from_err c.from_residual.result _ c.from_residual.ensures.0
 
 pub loop-i-preserved : goal.loop-i-preserved
 loop-i-preserved c =

@@ -1,0 +1,5 @@
+use Rattle.std.proofs.lemmas.Result.{IfOk-from_err}
+use Rattle.cxl_text.proofs.targets.put_targets.Goals as goal
+
+pub returns-in_err-put_number-in-len1-up : goal.returns-in_err-put_number-in-len1-up
+returns-in_err-put_number-in-len1-up c = IfOk-from_err c.from_residual.result _ c.from_residual.ensures.0
