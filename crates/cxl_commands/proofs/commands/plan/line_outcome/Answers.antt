@@ -1,6 +1,10 @@
+use Rattle.std.proofs.lemmas.Result.{IfOk-from_err}
 use Rattle.cxl_model.specs.System.{System, system_of}
 use Rattle.cxl_commands.proofs.Planned.{plan_made, refusal_made}
 use Rattle.cxl_commands.proofs.commands.plan.line_outcome.Goals as goal
+
+pub returns-in_err-plan : goal.returns-in_err-plan
+returns-in_err-plan c = IfOk-from_err c.from_residual.result _ c.from_residual.ensures.0
 
 pub returns-in-Ok : goal.returns-in-Ok
 returns-in-Ok c =
