@@ -1,7 +1,7 @@
 //! What is wrong with a file.
 
-use crate::say;
 use crate::topology::{Sought, Spot, key_below, line_above, line_of_node};
+use crate::{command_word, say};
 use cxl_cedt::CedtFault;
 use cxl_image::ImageFault;
 use cxl_inputs::fault_node;
@@ -252,14 +252,6 @@ fn reread<R: Files>(rt: &R, alloc: Global, name: &str) -> Option<Vec<u8>> {
     match fs::metadata(rt, name) {
         Ok(found) if found.is_file() => StdFetch::new(rt).fetch(alloc, name).ok(),
         _ => None,
-    }
-}
-
-/// A word of the command line, and nothing where there is none.
-fn command_word(words: &[String], place: usize) -> &str {
-    match words.get(place) {
-        Some(word) => word.as_str(),
-        None => "",
     }
 }
 

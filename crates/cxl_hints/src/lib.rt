@@ -34,6 +34,14 @@ pub fn hint<R: Eprint + Files>(
     }
 }
 
+/// A word of the command line, and nothing where there is none.
+fn command_word(words: &[String], place: usize) -> &str {
+    match words.get(place) {
+        Some(word) => word.as_str(),
+        None => "",
+    }
+}
+
 /// One line: what it is about, as a file's name or a word, and what is to be said of it.
 fn say<R: Eprint>(rt: &R, about: &str, text: &str) -> io::Result<()> {
     say_more(rt, about, text, "")

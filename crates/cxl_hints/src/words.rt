@@ -1,6 +1,6 @@
 //! Why words are no command.
 
-use crate::{say, say_more};
+use crate::{command_word, say, say_more};
 use cxl_io::{NumFault, read_number};
 use cxl_script::{BadLine, LineFault, Why, read_command};
 use std::alloc::Global;
@@ -8,17 +8,17 @@ use std::io::{self, Eprint};
 
 /// Names the word that cannot be read, or the form of the command that is asked.
 pub(crate) fn bad_words<R: Eprint>(rt: &R, alloc: Global, words: &[String]) -> io::Result<()> {
-    let Some((verb, operands)) = words.split_first() else {
+    if words.is_empty() {
         return say(
             rt,
             "",
             "no command is named, or a word is no UTF-8; see cxlplan --help",
         );
-    };
-    match (verb.as_str(), operands) {
-        ("route", [_, address]) => bad_number(rt, address.as_str()),
-        ("plan", [_, _, line]) => no_create(rt, alloc, line.as_str()),
-        ("help" | "-h" | "--help", [verb]) => no_command(rt, verb.as_str()),
+    }
+    match (command_word(words, 0), words.len()) {
+        ("route", 3) => bad_number(rt, command_word(words, 2)),
+        ("plan", 4) => no_create(rt, alloc, command_word(words, 3)),
+        ("help" | "-h" | "--help", 2) => no_command(rt, command_word(words, 1)),
         (verb, _) => no_command(rt, verb),
     }
 }
@@ -74,20 +74,13 @@ fn bad_number<R: Eprint>(rt: &R, word: &str) -> io::Result<()> {
 
 /// Why a line asks for no region.
 fn no_create<R: Eprint>(rt: &R, alloc: Global, line: &str) -> io::Result<()> {
-    match read_command(alloc, line.as_bytes()) {
-        Err(LineFault::Bad(bad)) => bad_line(rt, line, bad),
-        Err(LineFault::Memory) => say(rt, "", "memory ran out"),
-        Ok(Some(_)) => say(
-            rt,
-            "",
-            "plan wants a line that begins with create, and no other command",
-        ),
-        Ok(None) => say(
-            rt,
-            "",
-            "the line is empty or a comment; write create NAME KIND SIZE EP..",
-        ),
-    }
+    let why = match read_command(alloc, line.as_bytes()) {
+        Err(LineFault::Bad(bad)) => return bad_line(rt, line, bad),
+        Err(LineFault::Memory) => "memory ran out",
+        Ok(Some(_)) => "plan wants a line that begins with create, and no other command",
+        Ok(None) => "the line is empty or a comment; write create NAME KIND SIZE EP..",
+    };
+    say(rt, "", why)
 }
 
 /// The place and the cause of a line's first fault, with the word that begins there.
@@ -95,7 +88,7 @@ fn bad_line<R: Eprint>(rt: &R, line: &str, bad: BadLine) -> io::Result<()> {
     let at = bad.at;
     let word = word_at(line, at as usize);
     let why = advice(bad.why);
-    if word.is_empty() || bad.why == Why::Long {
+    if word.is_empty() || matches!(bad.why, Why::Long) {
         eprintln!(rt; "cxlplan: in LINE at byte {at}: {why}; see cxlplan --help")
     } else {
         eprintln!(rt; "cxlplan: in LINE at byte {at}, {word:?}: {why}; see cxlplan --help")
