@@ -1,5 +1,5 @@
 use Rattle.std.proofs.Common.{ℕ, length, ap, subst, ◌∙◌}
-use Rattle.std.proofs.lemmas.Result.{IfOk-weaker}
+use Rattle.std.proofs.lemmas.Result.{IfOk-from_err, IfOk-weaker}
 use Rattle.cxl_inputs.specs.Outcome.{one_piece}
 use Rattle.cxl_inputs.specs.declared.status.Status.TheVariants.{Done}
 use Rattle.cxl_machine.specs.Turns.{machine_after}
@@ -10,6 +10,12 @@ use Rattle.cxl_shell.specs.commands.Gen.{made_asked, gen_text, HasChecked}
 use Rattle.cxl_shell.proofs.Generated.{gone_first_all, image_is_present}
 use Rattle.cxl_commands.proofs.Results.{on_err_from}
 use Rattle.cxl_shell.proofs.commands.generated.carried_out.Goals as goal
+
+pub returns-in_err-counts-clause-all : goal.returns-in_err-counts-clause-all
+returns-in_err-counts-clause-all g c = IfOk-from_err c.from_residual.result _ c.from_residual.ensures.0
+
+pub returns-in_err-checked-clause-all : goal.returns-in_err-checked-clause-all
+returns-in_err-checked-clause-all g c = IfOk-from_err c.from_residual-in_err-checked.result _ c.from_residual-in_err-checked.ensures.0
 
 pub returns-in_err-checked-clause-some : goal.returns-in_err-checked-clause-some
 returns-in_err-checked-clause-some g c =

@@ -1,3 +1,4 @@
+use Rattle.std.proofs.lemmas.Result.{IfOk-from_err}
 use Rattle.std.proofs.Common.{arith}
 use Rattle.std.proofs.lemmas.List.{take_all}
 use Rattle.cxl_gen.specs.Made.{made_commands}
@@ -6,6 +7,12 @@ use Rattle.cxl_turns.proofs.Counting.{none_counted, one_counted, all_counted, st
 use Rattle.cxl_shell.proofs.Generated.{next_ranged, before_next, at_next}
 use Rattle.cxl_commands.proofs.Results.{on_err_from}
 use Rattle.cxl_shell.proofs.commands.generated.carry_out_each.Goals as goal
+
+pub returns-in_err-make_command-clause-all : goal.returns-in_err-make_command-clause-all
+returns-in_err-make_command-clause-all g c = IfOk-from_err c.from_residual.result _ c.from_residual.ensures.0
+
+pub returns-in_err-carry_out_counted-clause-all : goal.returns-in_err-carry_out_counted-clause-all
+returns-in_err-carry_out_counted-clause-all g c = IfOk-from_err c.from_residual-in_err-carry_out_counted.result _ c.from_residual-in_err-carry_out_counted.ensures.0
 
 pub loop-k-init : goal.loop-k-init
 loop-k-init g c = record {
