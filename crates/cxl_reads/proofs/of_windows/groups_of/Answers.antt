@@ -1,8 +1,12 @@
+use Rattle.std.proofs.lemmas.Result.{IfOk-from_err}
 use Rattle.std.proofs.Common.{◌∙◌, ap, sym, List, ℕ, ◌++◌, []}
 use Rattle.std.specs.List.{cons_option}
 use Rattle.cxl_window.proofs.FilterMaps.{filter_map_more}
 use Rattle.cxl_reads.specs.Windows.{group_in}
 use Rattle.cxl_reads.proofs.of_windows.groups_of.Goals as goal
+
+pub returns-in_err-add_group : goal.returns-in_err-add_group
+returns-in_err-add_group c = IfOk-from_err c.from_residual.result _ c.from_residual.ensures.0
 
 pub loop-record-preserved : goal.loop-record-preserved
 loop-record-preserved c =

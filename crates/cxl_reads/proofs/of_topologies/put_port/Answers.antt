@@ -1,0 +1,11 @@
+use Rattle.std.proofs.lemmas.Result.{IfOk-from_err}
+use Rattle.cxl_reads.proofs.of_topologies.put_port.Goals as goal
+
+pub returns-in_err-extend_from_slice : goal.returns-in_err-extend_from_slice
+returns-in_err-extend_from_slice c = IfOk-from_err c.from_residual.result _ c.from_residual.ensures.0
+
+pub returns-in_err-extend_from_slice-2 : goal.returns-in_err-extend_from_slice-2
+returns-in_err-extend_from_slice-2 c = IfOk-from_err c.from_residual-in_err-extend_from_slice-2.result _ c.from_residual-in_err-extend_from_slice-2.ensures.0
+
+pub returns-in_err-put_text : goal.returns-in_err-put_text
+returns-in_err-put_text c = IfOk-from_err c.from_residual-in_err-put_text.result _ c.from_residual-in_err-put_text.ensures.0
