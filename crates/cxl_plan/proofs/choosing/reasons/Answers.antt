@@ -9,18 +9,20 @@ use Rattle.cxl_plan.proofs.choosing.reasons.Goals as goal
 pub loop-w-init : goal.loop-w-init
 loop-w-init c = no_reasons (as_system c.args.host.now) c.args.request.now c.in_ok-reasons.reasons.items c.in_ok-reasons.ensures.items
 
-pub reason_in-requires-clause-here : goal.reason_in-requires-clause-here
-reason_in-requires-clause-here c =
+pub reason_in-requires : goal.reason_in-requires
+reason_in-requires c =
     let w : WindowFields = c.w-item.result in
     let i = c.loop-w.w-index in
-    let here : slice_get c.args.host.now.windows.now i ≡ Some w = slice_get-get_or c.args.host.now.windows.now i w (omega arith) ∙ ap Some (sym c.w-item.is) in
-    ap (slice_get c.args.host.now.windows.now) (c.requires.ready.system.made.indexed i w here) ∙ here
-
-pub reason_in-requires-clause-none : goal.reason_in-requires-clause-none
-reason_in-requires-clause-none c =
-    let w : WindowFields = c.w-item.result in
-    let i = c.loop-w.w-index in
-    c.requires.none i w (slice_get-get_or c.args.host.now.windows.now i w (omega arith) ∙ ap Some (sym c.w-item.is))
+    let at : slice_get c.args.host.now.windows.now i ≡ Some w = slice_get-get_or c.args.host.now.windows.now i w (omega arith) ∙ ap Some (sym c.w-item.is) in
+    record {
+      ready = c.requires.ready;
+      sound = c.requires.sound;
+      uses = c.requires.uses;
+      stages = c.requires.stages;
+      floor = c.requires.floor;
+      here = ap (slice_get c.args.host.now.windows.now) (c.requires.ready.system.made.indexed i w at) ∙ at;
+      none = c.requires.none i w at;
+    }
 
 pub loop-w-preserved : goal.loop-w-preserved
 loop-w-preserved c =

@@ -1,4 +1,4 @@
-use Rattle.std.proofs.Common.{◌≡◌, true, ◌&&◌, get_or, sym, refl, ◌∙◌, arith}
+use Rattle.std.proofs.Common.{◌≡◌, true, false, ◌&&◌, get_or, sym, refl, ◌∙◌, arith, below_more}
 use Rattle.std.proofs.lemmas.Bool.{and_parts, and_from}
 use Rattle.cxl_topo.specs.Tree.{is_bridge_at}
 use Rattle.cxl_legal.specs.Used.{is_used}
@@ -37,3 +37,9 @@ returns c = record {
   inside = tt;
   used = tt;
 }
+
+pub loop-node-preserved : goal.loop-node-preserved
+loop-node-preserved c =
+    let here : is_bridge_at c.args.topo.now.nodes (get_or c.deref-node-items.result.now c.loop-node.node-index 0) ≡ false =
+    rw c.node.ensures (sym c.is_bridge.ensures ∙ c.if-is_bridge.false) in
+    below_more _ _ c.loop-node.invariant here

@@ -1,4 +1,4 @@
-use Rattle.std.proofs.Common.{◌≡◌, ◌&&◌, Bool, true, false, get_or, sym, refl, ◌∙◌, arith}
+use Rattle.std.proofs.Common.{◌≡◌, [], ◌&&◌, Bool, true, false, get_or, sym, refl, ◌∙◌, arith, below_more}
 use Rattle.std.proofs.lemmas.Bool.{and_parts, and_from}
 use Rattle.cxl_span.specs.Allotting.{all_committed}
 use Rattle.cxl_model.specs.System.{decoders_at}
@@ -34,3 +34,9 @@ returns c nodes request count uses =
     falls : (b : Bool) → (b && false) ≡ false
     falls true = refl
     falls false = refl
+
+pub loop-node-preserved : goal.loop-node-preserved
+loop-node-preserved c =
+    let here : all_committed (decoders_at (without_windows [] c.args.image.now) (get_or c.deref-node-items.result.now c.loop-node.node-index 0)) ≡ false =
+    rw c.block.ensures.value (sym c.is_full.ensures ∙ c.if-is_full.false) in
+    below_more _ _ c.loop-node.invariant here

@@ -1,6 +1,8 @@
-use Rattle.std.proofs.Common.{List, length, refl, sym, ap, ◌∙◌}
+use Rattle.std.proofs.Common.{List, length, refl, sym, ap, ◌∙◌, arith}
 use Rattle.std.specs.Prelude.{slice_get}
 use Rattle.cxl_model.specs.declared.found.Place.{Place}
+use Rattle.cxl_legal.specs.Used.{request_ways}
+use Rattle.cxl_plan.proofs.PlannedWays.{few_ways}
 use Rattle.cxl_plan.proofs.StatedRows.{rows_told}
 use Rattle.cxl_plan.proofs.planning.plan_at.Goals as goal
 
@@ -21,8 +23,11 @@ returns c = record {
 pub places-requires : goal.places-requires
 places-requires c = c.requires.settled
 
-pub rows-requires-clause-settled : goal.rows-requires-clause-settled
-rows-requires-clause-settled c = c.requires.settled
+pub rows-requires : goal.rows-requires
+rows-requires c = record { settled = c.requires.settled; stages = c.requires.stages }
 
-pub rows-requires-clause-stages : goal.rows-requires-clause-stages
-rows-requires-clause-stages c = c.requires.stages
+pub overflow_cast-result : goal.overflow_cast-result
+overflow_cast-result c =
+    let few = few_ways (request_ways c.args.request.now) c.requires.settled.endpoints.ways in
+    let count = ap length c.items.ensures in
+    omega (arith, few, count)

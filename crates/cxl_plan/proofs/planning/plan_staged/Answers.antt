@@ -1,4 +1,4 @@
-use Rattle.std.proofs.Common.{◌≡◌, ℕ, List, Some, refl, sym, ap, subst, ◌∙◌}
+use Rattle.std.proofs.Common.{◌≡◌, ℕ, List, Some, refl, sym, ap, subst, ◌∙◌, arith}
 use Rattle.std.proofs.lemmas.Option.{same_Some, slice_get_within, slice_get-get_or}
 use Rattle.cxl_window.specs.Fields.{WindowFields}
 use Rattle.cxl_topo.proofs.Trees.{KnownTree}
@@ -93,3 +93,10 @@ returns-in-Err c = record {
   endpoints = tt;
   plan = tt;
 }
+
+pub offset_bounds-windows-i : goal.offset_bounds-windows-i
+offset_bounds-windows-i c =
+    let found : IsChoice (as_system c.args.host.now) c.args.request.now (Found c.in-Found.i c.in-Found.base) =
+    subst (IsChoice (as_system c.args.host.now) c.args.request.now) c.in-Found.is c.in-Ok.ensures in
+    let within = slice_get_within c.args.host.now.windows.now c.in-Found.i found.0 found.1 in
+    omega (arith, within)

@@ -1,13 +1,15 @@
 use Rattle.std.specs.Prelude.{slice_get, IsSome}
 use Rattle.std.proofs.lemmas.Option.{slice_get-get_or, same_Some}
+use Rattle.cxl_topo.specs.declared.node.Node.{Node}
 use Rattle.cxl_topo.specs.Tree.{bridge_with}
 use Rattle.cxl_model.specs.Hosts.{as_system}
 use Rattle.cxl_model.specs.System.{decoders_at, ram_at, pmem_at}
 use Rattle.cxl_model.specs.Regions.{target_position}
+use Rattle.cxl_model.specs.declared.request.Request.{Request}
 use Rattle.cxl_legal.specs.Endpoints.{share_of}
 use Rattle.cxl_plan.proofs.StatedRows.{least_start}
 use Rattle.cxl_plan.proofs.StatedSpans.{reached_over}
-use Rattle.std.proofs.Common.{Some, ◌≡◌, ℕ, List, Ok, true, length, get_or, refl, sym, ap, subst, ◌∙◌, arith}
+use Rattle.std.proofs.Common.{Some, ◌≡◌, ℕ, ◌<◌, List, Ok, true, length, get_or, refl, sym, ap, subst, ◌∙◌, arith}
 use Rattle.std.specs.Result.{IsOk}
 use Rattle.std.specs.List.{list_all}
 use Rattle.std.proofs.lemmas.Bool.{and_parts}
@@ -15,7 +17,7 @@ use Rattle.cxl_topo.proofs.Trees.{KnownTree}
 use Rattle.cxl_legal.specs.Used.{is_used}
 use Rattle.cxl_legal.specs.Windows.{is_used_bridge}
 use Rattle.cxl_plan.specs.inner.Uses.{tree_alone}
-use Rattle.cxl_plan.proofs.UsedItems.{used_asked}
+use Rattle.cxl_plan.proofs.UsedItems.{used_asked, used_below}
 use Rattle.cxl_plan.proofs.Leading.{target_at, used_bridge}
 use Rattle.cxl_plan.proofs.spans.place_of.Goals as goal
 
@@ -33,23 +35,16 @@ unwrap-bridge-requires c =
     let bridge = used_bridge nodes request (get_or targets c.from.result 0) (target_at nodes request targets c.from.result all (omega arith)) in
     subst (λ o. IsSome o) (sym (c.bridge.ensures.bridge ∙ bridge.1)) refl
 
-pub reached-endpoint-requires-clause-used : goal.reached-endpoint-requires-clause-used
-reached-endpoint-requires-clause-used c =
-    let nodes = c.args.host.now.topo.now.nodes in
-    let request = c.args.request.now in
-    let targets : List ℕ = c.targets.result.now in
-    let all : list_all (is_used_bridge (tree_alone nodes) request) targets ≡ true =
-    ap (list_all (is_used_bridge (tree_alone nodes) request)) c.targets.ensures.value ∙ (and_parts (list_all (is_used_bridge (tree_alone nodes) request) c.args.w.now.targets) _ c.requires.settled.window.bridges).0 in
-    let long = ap length c.targets.ensures.value in
-    let each = c.targets.ensures.each_way in
-    let within = c.target_position.ensures.within in
-    let from = c.from.ensures in
-    let bridge = used_bridge nodes request (get_or targets c.from.result 0) (target_at nodes request targets c.from.result all (omega arith)) in
-    let same : bridge.0 ≡ c.unwrap-bridge.result = same_Some bridge.0 c.unwrap-bridge.result (sym bridge.1 ∙ sym c.bridge.ensures.bridge ∙ c.unwrap-bridge.ensures) in
+-- the bridge of a target is used
+used_target : (nodes : List Node) (request : Request) (targets : List ℕ) (k b : ℕ) → list_all (is_used_bridge (tree_alone nodes) request) targets ≡ true → k < length targets
+    → bridge_with nodes (get_or targets k 0) ≡ Some b → is_used (tree_alone nodes) request b ≡ true
+used_target nodes request targets k b all below is =
+    let bridge = used_bridge nodes request (get_or targets k 0) (target_at nodes request targets k all below) in
+    let same : bridge.0 ≡ b = same_Some bridge.0 b (sym bridge.1 ∙ is) in
     subst (λ (n : ℕ). is_used (tree_alone nodes) request n ≡ true) same bridge.2
 
-pub used_above-above-requires-clause-used : goal.used_above-above-requires-clause-used
-used_above-above-requires-clause-used c =
+pub used_above-above-requires : goal.used_above-above-requires
+used_above-above-requires c =
     let nodes = c.args.host.now.topo.now.nodes in
     let request = c.args.request.now in
     let targets : List ℕ = c.targets.result.now in
@@ -59,9 +54,37 @@ used_above-above-requires-clause-used c =
     let each = c.targets.ensures.each_way in
     let within = c.target_position.ensures.within in
     let from = c.from.ensures in
-    let bridge = used_bridge nodes request (get_or targets c.from.result 0) (target_at nodes request targets c.from.result all (omega arith)) in
-    let same : bridge.0 ≡ c.unwrap-bridge.result = same_Some bridge.0 c.unwrap-bridge.result (sym bridge.1 ∙ sym c.bridge.ensures.bridge ∙ c.unwrap-bridge.ensures) in
-    subst (λ (n : ℕ). is_used (tree_alone nodes) request n ≡ true) same bridge.2
+    let used = used_target nodes request targets c.from.result c.unwrap-bridge.result all (omega (arith, long, each, within, from)) (sym c.bridge.ensures.bridge ∙ c.unwrap-bridge.ensures) in
+    let tree : KnownTree nodes = record { tree = c.requires.settled.ready.system.tree; laws = c.requires.settled.ready.laws } in
+    record {
+      uses = c.requires.settled.tables;
+      ways = c.requires.settled.ways;
+      here = used_below nodes tree request c.requires.settled.ready.named c.unwrap-bridge.result used;
+      used = used;
+    }
+
+pub reached-endpoint-requires : goal.reached-endpoint-requires
+reached-endpoint-requires c =
+    let nodes = c.args.host.now.topo.now.nodes in
+    let request = c.args.request.now in
+    let targets : List ℕ = c.targets.result.now in
+    let all : list_all (is_used_bridge (tree_alone nodes) request) targets ≡ true =
+    ap (list_all (is_used_bridge (tree_alone nodes) request)) c.targets.ensures.value ∙ (and_parts (list_all (is_used_bridge (tree_alone nodes) request) c.args.w.now.targets) _ c.requires.settled.window.bridges).0 in
+    let long = ap length c.targets.ensures.value in
+    let each = c.targets.ensures.each_way in
+    let within = c.target_position.ensures.within in
+    let from = c.from.ensures in
+    let used = used_target nodes request targets c.from.result c.unwrap-bridge.result all (omega (arith, long, each, within, from)) (sym c.bridge.ensures.bridge ∙ c.unwrap-bridge.ensures) in
+    let tree : KnownTree nodes = record { tree = c.requires.settled.ready.system.tree; laws = c.requires.settled.ready.laws } in
+    record {
+      uses = c.requires.settled.tables;
+      ways = c.requires.settled.ways;
+      here = used_below nodes tree request c.requires.settled.ready.named c.unwrap-bridge.result used;
+      used = used;
+      above = c.used_above-above.ensures.ways;
+      some = c.used_above-above.ensures.some;
+      few = c.used_above-above.ensures.few_ways;
+    }
 
 pub unwrap-requires : goal.unwrap-requires
 unwrap-requires c =

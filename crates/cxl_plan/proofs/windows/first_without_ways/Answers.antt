@@ -1,4 +1,4 @@
-use Rattle.std.proofs.Common.{not, get_or, sym, ap, ◌∙◌, arith}
+use Rattle.std.proofs.Common.{not, get_or, sym, ap, ◌∙◌, arith, below_more}
 use Rattle.cxl_legal.specs.Windows.{can_have_ways}
 use Rattle.cxl_plan.specs.inner.Uses.{tree_alone}
 use Rattle.cxl_plan.proofs.UsedItems.{item_inside, item_used, least_item, no_item}
@@ -27,3 +27,6 @@ returns c =
     let is = c.deref-node-items.ensures.value ∙ c.requires.uses.listed in
     no_item nodes request items is (λ m. not (can_have_ways (tree_alone nodes) request m)) (without_ways_used nodes request) c.loop-node.node-index (omega arith)
     (λ j below. ap not (sym (ways_tested nodes request (get_or items j 0) (item_used nodes request items is j (omega arith))) ∙ c.loop-node.invariant j below))
+
+pub loop-node-preserved : goal.loop-node-preserved
+loop-node-preserved c = below_more _ _ c.loop-node.invariant (sym c.is_port_or_has_ways.ensures ∙ c.if-not-is_port_or_has_ways.false)
