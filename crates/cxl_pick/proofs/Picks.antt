@@ -104,20 +104,21 @@ abbrev pub LegalFits : System → Type 0
 LegalFits s = (request : Request) (w : WindowFields) (plan : Plan) → AreEndpoints s request → IsLegalPlanIn s request w plan → FitsEndpoints s request
 
 -- no pick has want of memory for its answer
+real_set : (s : System) (some : Option (List ℕ)) → set_or_none s some ≡ Err faults.Memory → ⊥
+real_set s None e = cc
+real_set s (Some given) e = cc
+
+real_size : (s : System) (size : Bool) (some : Option (List ℕ)) → (if not size then Err faults.Size else set_or_none s some) ≡ Err faults.Memory → ⊥
+real_size s true some e = real_set s some e
+real_size s false some e = cc
+
+real_ways : (s : System) (n : ℕ) (ways size : Bool) (some : Option (List ℕ))
+    → (if not ways then Err (faults.Ways n) else (if not size then Err faults.Size else set_or_none s some)) ≡ Err faults.Memory → ⊥
+real_ways s n true size some e = real_size s size some e
+real_ways s n false size some e = cc
+
 pub not_memory : (s : System) (want : Want) → picked s want ≡ Err faults.Memory → ⊥
-not_memory s want is = by_tests (is_ways want.ways) (is_size_for want.size want.ways) (first_there (map (given_in s want) s.windows)) is
-  where
-    by_set : (some : Option (List ℕ)) → set_or_none s some ≡ Err faults.Memory → ⊥
-    by_set None e = cc
-    by_set (Some given) e = cc
-
-    by_size : (size : Bool) (some : Option (List ℕ)) → (if not size then Err faults.Size else set_or_none s some) ≡ Err faults.Memory → ⊥
-    by_size true some e = by_set some e
-    by_size false some e = cc
-
-    by_tests : (ways size : Bool) (some : Option (List ℕ)) → (if not ways then Err (faults.Ways want.ways) else (if not size then Err faults.Size else set_or_none s some)) ≡ Err faults.Memory → ⊥
-    by_tests true size some e = by_size size some e
-    by_tests false size some e = cc
+not_memory s want is = real_ways s want.ways (is_ways want.ways) (is_size_for want.size want.ways) (first_there (map (given_in s want) s.windows)) is
 
 module _ (s : System) (want : Want) (fits : LegalFits s) where
   none_of_ways : is_ways want.ways ≡ false → NothingPlans s want

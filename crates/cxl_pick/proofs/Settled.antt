@@ -47,3 +47,8 @@ item_there (x ∷ xs) (suc i) P d holds =
     let rest = item_there xs i P d holds in
     let within = rest.0 in
     (omega (arith, within), rest.1)
+
+pub place_within : {X : Type 0} (xs : List X) (i : ℕ) (P : X → Type 0) → IsSomeAnd (slice_get xs i) P → i < length xs
+place_within [] i P none = absurd none
+place_within (x ∷ xs) zero P holds = omega arith
+place_within (x ∷ xs) (suc i) P holds = let rest = place_within xs i P holds in omega (arith, rest)

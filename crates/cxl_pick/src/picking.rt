@@ -1,6 +1,6 @@
 //! The pick: endpoints for a region, window by window and bridge by bridge.
 
-ghost use Rattle.std.specs.Prelude.{◌≡◌, ◌≢◌, ◌≤◌, ◌<◌, ◌==◌, ◌/◌, true, false, length, map, option_map, option_and_then, IfOk, IfErr, IfSome, OnOk, MatchOption, All, Ok, Err};
+ghost use Rattle.std.specs.Prelude.{◌≡◌, ◌≢◌, ◌≤◌, ◌<◌, ◌==◌, ◌/◌, if◌then◌else◌, true, false, [], length, Some, None, map, option_map, option_and_then, IfOk, IfErr, IfSome, OnOk, MatchOption, All, Ok, Err};
 ghost use Rattle.std.specs.List.{list_any};
 ghost use Rattle.cxl_enc.specs.Codes.{is_ways};
 ghost use Rattle.cxl_topo.specs.Tree.{is_endpoint_at, bridge_with};
@@ -186,24 +186,54 @@ fn all_given(
         (λ b. gives (as_system host.now) want.now w.now start b (want.now.ways / w.now.ways))
         (bridge_with host.now.topo.now.nodes uid)) w.now.targets)) }
 {
+    let mut given = Vec::new(alloc);
+    if !give_for_each(&mut given, gifts, alloc, host, want, w, start, highest)? {
+        return Ok(None);
+    }
+    Ok(Some(given))
+}
+
+/// Writes what they give into an empty list, and says whether each gives something. Takes memory.
+fn give_for_each(
+    given: &mut Vec<u32>,
+    gifts: &mut Gifts,
+    alloc: Global,
+    host: &Host,
+    want: &Want,
+    w: &Window,
+    start: u64,
+    highest: &[u8],
+) -> Result<bool, AllocError>
+    requires ready { IsOrderlySystem (as_system host.now) }
+    requires sound { HasWaysAndSize want.now }
+    requires count { length highest.now ≡ length host.now.topo.now.nodes }
+    requires highest { AreHighest host.now.topo.now.nodes highest.now }
+    requires none { given.old.items ≡ [] }
+    requires gifts { AreGifts (as_system host.now) want.now gifts.old }
+    requires asked { IsAsked want.now gifts.old w.now start }
+    ensures gifts { OnOk result (AreGifts (as_system host.now) want.now gifts.new) }
+    ensures given { IfOk result (λ each. (if each then Some given.new.items else None)
+        ≡ all_given (map (λ uid. option_and_then
+        (λ b. gives (as_system host.now) want.now w.now start b (want.now.ways / w.now.ways))
+        (bridge_with host.now.topo.now.nodes uid)) w.now.targets)) }
+{
     tree_laws();
     let _count = host.topo.count();
     let share = want.ways / w.ways();
     let targets = w.targets();
-    let mut given = Vec::new(alloc);
     for uid in targets {
         let Some(bridge) = host.topo.bridge(*uid) else {
-            return Ok(None);
+            return Ok(false);
         };
         ask(gifts, alloc, host, want, w, start, highest, bridge)?;
         if known_at(gifts, bridge, share) == 0 {
-            return Ok(None);
+            return Ok(false);
         }
         give(
-            &mut given, alloc, gifts, host, want, w, start, highest, bridge, share,
+            given, alloc, gifts, host, want, w, start, highest, bridge, share,
         )?;
     }
-    Ok(Some(given))
+    Ok(true)
 }
 
 /// The same numbers of nodes in rising order. Takes memory.

@@ -102,3 +102,19 @@ returns t c =
     ∙ ap (λ (ds : List ℕ). c.args.given.now.items ++ flat_map (λ (ns : List ℕ). ns) (take u (filter_map f ds))) own.is
     ∙ ap (λ (ns : List ℕ). c.args.given.now.items ++ ns)
     (sym (port_gives_by s known c.args.want.now c.args.w.now c.args.start c.args.node c.args.m u c.requires.here port is c.if-used-eq0.false))
+
+-- a number that is not 0 is some
+some : (n : ℕ) → (n ≡ 0 → ⊥) → 0 < n
+some n other = omega arith
+
+one_left : (n : ℕ) → 0 < n → 1 ≤ n
+one_left n more = omega arith
+
+pub overflow_sub-left : goal.overflow_sub-left
+overflow_sub-left t c = one_left c.loop-child.left c.if-left-gt0.true
+
+pub nonzero_div-m-then-known_at-ne0 : goal.nonzero_div-m-then-known_at-ne0
+nonzero_div-m-then-known_at-ne0 t c = some c.known_at-used.result c.if-used-eq0.false
+
+pub nonzero_div-m : goal.nonzero_div-m
+nonzero_div-m t c = some c.known_at-used.result c.if-used-eq0.false

@@ -1,4 +1,4 @@
-use Rattle.std.proofs.Common.{◌≡◌, ℕ, ◌<◌, List, length, get_or, Some, Vec, Global, sym, ap, ◌∙◌, subst, inl, inr, arith}
+use Rattle.std.proofs.Common.{◌≡◌, ℕ, ◌<◌, ◌≤◌, List, length, get_or, Some, Vec, Global, sym, ap, ◌∙◌, subst, inl, inr, arith}
 use Rattle.std.specs.Prelude.{slice_get, option_map, All}
 use Rattle.std.proofs.lemmas.Bool.{cases_eq}
 use Rattle.std.proofs.lemmas.Option.{slice_get-get_or, slice_get_within, same_Some}
@@ -67,5 +67,11 @@ returns c = λ place w at.
     let past = c.loop-w-test.false in
     c.loop-w.invariant.1 place w (omega (arith, within, past)) at
 
-pub pick_in-requires-clause-tables : goal.pick_in-requires-clause-tables
-pick_in-requires-clause-tables c = c.loop-w.invariant.0
+pub pick_in-requires : goal.pick_in-requires
+pick_in-requires c = record {
+  ready = c.requires.ready;
+  sound = c.requires.sound;
+  count = ap length c.deref.ensures.value ∙ c.in_ok-highest.ensures.count;
+  highest = λ k parent up. subst (λ (hs : List ℕ). parent.port ≤ get_or hs parent.node 0) (sym c.deref.ensures.value) (c.in_ok-highest.ensures.highest k parent up);
+  tables = c.loop-w.invariant.0;
+}

@@ -4,7 +4,7 @@ use Rattle.cxl_model.specs.Hosts.{as_system}
 use Rattle.cxl_pick.specs.Picking.{all_given}
 use Rattle.cxl_pick.specs.inner.Gifts.{AreGifts, IsAsked}
 use Rattle.cxl_pick.proofs.Parts.{at_target}
-use Rattle.cxl_pick.proofs.picking.all_given.Given as goal
+use Rattle.cxl_pick.proofs.picking.give_for_each.Given as goal
 
 abbrev pub invariant-loop-uid : goal.invariant-loop-uid
 invariant-loop-uid l =
