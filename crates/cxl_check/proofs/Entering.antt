@@ -1,7 +1,7 @@
 -- The table of children, as they are entered one after the other.
-use Rattle.std.proofs.Common.{◌≡◌, ℕ, ◌+◌, ◌*◌, ◌/◌, ◌%◌, ◌<◌, ◌≤◌, Bool, if◌then◌else◌, List, length, get_or, set, Option, Some, None, refl, sym, ap, ◌∙◌, inl, inr, arith}
+use Rattle.std.proofs.Common.{◌≡◌, ℕ, ◌+◌, ◌*◌, ◌/◌, ◌%◌, ◌<◌, ◌≤◌, Bool, if◌then◌else◌, List, length, get_or, set, replicate, Option, Some, None, refl, sym, ap, subst, ◌∙◌, inl, inr, arith}
 use Rattle.std.proofs.lemmas.Bool.{cases_lt, cases_eq, lt-ltb, le-ltb}
-use Rattle.std.proofs.lemmas.List.{get_or-set_same, get_or-set_other, length-set}
+use Rattle.std.proofs.lemmas.List.{get_or-set_same, get_or-set_other, get_or-replicate, length-set, length-replicate}
 use Rattle.std.proofs.lemmas.Option.{same_Some}
 use Rattle.cxl_topo.specs.declared.node.Node.{Node}
 use Rattle.cxl_topo.specs.declared.node.Parent.{Parent}
@@ -33,8 +33,13 @@ none_below None = refl
 none_below (Some c) = sym (above_none 0 c (omega arith))
 
 -- no child is entered at first
-pub none_entered : (nodes : List Node) (children : List (Option ℕ)) → length children ≡ 8 * length nodes → ((k : ℕ) → get_or children k None ≡ None) → AreEntered nodes 0 children
-none_entered nodes children long none = record { count = long; each = λ k low. none k ∙ none_below (child_of nodes (k / 8) (k % 8)) }
+pub none_entered : (nodes : List Node) (count : ℕ) (children : List (Option ℕ)) → count ≡ 8 * length nodes → children ≡ replicate count None → AreEntered nodes 0 children
+none_entered nodes count children whole is = record {
+  count = ap length is ∙ length-replicate count None ∙ whole;
+  each = λ k low.
+      ap (λ (cs : List (Option ℕ)). get_or cs k None) is ∙ get_or-replicate count k None None (subst (λ (n : ℕ). k < n) (sym whole) low)
+      ∙ none_below (child_of nodes (k / 8) (k % 8));
+}
 
 module _ (nodes : List Node) (known : KnownTree nodes) where
   -- a node that stands at no such port enters nothing

@@ -1,9 +1,9 @@
 -- Marks of landings, one node at a time.
-use Rattle.std.proofs.Common.{◌≡◌, ℕ, ◌+◌, ◌<◌, Bool, true, false, ◌||◌, List, length, get_or, set, Some, refl, sym, ap, ◌∙◌, inl, inr, arith}
+use Rattle.std.proofs.Common.{◌≡◌, ℕ, ◌+◌, ◌<◌, Bool, true, false, ◌||◌, List, length, get_or, set, replicate, Some, refl, sym, ap, subst, ◌∙◌, inl, inr, arith}
 use Rattle.std.specs.Prelude.{◌==◌}
 use Rattle.std.specs.List.{list_any, range_with_len}
 use Rattle.std.proofs.lemmas.Bool.{eq-eqb, ne_eqb, cases_eq, or_right}
-use Rattle.std.proofs.lemmas.List.{get_or-set_same, get_or-set_other, length-set}
+use Rattle.std.proofs.lemmas.List.{get_or-set_same, get_or-set_other, get_or-replicate, length-set, length-replicate}
 use Rattle.std.proofs.lemmas.Option.{slice_get-get_or}
 use Rattle.cxl_enc.proofs.Tests.{or_false}
 use Rattle.cxl_topo.specs.declared.node.Node.{Node}
@@ -15,6 +15,13 @@ use Rattle.cxl_check.proofs.Numbers.{any_more}
 pub record AreMarked (nodes : List Node) (b : ℕ) (landings : List Bool) : Type 0 where
   pub count : length landings ≡ length nodes
   pub marked : (k : ℕ) → k < length nodes → get_or landings k false ≡ list_any (lands_at nodes k) (range_with_len 0 b)
+
+-- nothing is marked at first
+pub not_marked : (nodes : List Node) (count : ℕ) (landings : List Bool) → count ≡ length nodes → landings ≡ replicate count false → AreMarked nodes 0 landings
+not_marked nodes count landings whole is = record {
+  count = ap length is ∙ length-replicate count false ∙ whole;
+  marked = λ k low. ap (λ (bs : List Bool). get_or bs k false) is ∙ get_or-replicate count k false false (subst (λ (n : ℕ). k < n) (sym whole) low);
+}
 
 module _ (nodes : List Node) (b : ℕ) (old : List Bool) (marked : AreMarked nodes b old) where
   -- a node that is no bridge, or has no landing, marks nothing

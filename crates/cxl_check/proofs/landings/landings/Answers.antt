@@ -1,5 +1,5 @@
-use Rattle.std.proofs.Common.{◌≡◌, ◌+◌, Bool, Vec, Global, length, sym, ap, subst, arith}
-use Rattle.cxl_check.proofs.Marks.{AreMarked, none_marked, one_marked, all_marked}
+use Rattle.std.proofs.Common.{◌≡◌, ◌+◌, Bool, Vec, Global, length, sym, ap, subst, arith, rules}
+use Rattle.cxl_check.proofs.Marks.{AreMarked, not_marked, none_marked, one_marked, all_marked}
 use Rattle.cxl_check.proofs.landings.landings.Goals as goal
 use Rattle.cxl_check.proofs.landings.landings.Goals.{in-Some, in_default}
 
@@ -18,3 +18,6 @@ pub returns : goal.returns
 returns c =
     let whole : c.loop-bridge.bridge ≡ length c.args.topo.now.nodes = omega (arith, c.count-bridge-end.ensures.count) in
     all_marked c.args.topo.now.nodes c.loop-bridge.landings.items (rw whole at c.loop-bridge.invariant)
+
+pub loop-bridge-init : goal.loop-bridge-init
+loop-bridge-init c = not_marked c.args.topo.now.nodes c.count.result c.in_ok-landings.landings.items c.count.ensures.count (c.in_ok-landings.ensures.items_if_clones_equal (search rules))

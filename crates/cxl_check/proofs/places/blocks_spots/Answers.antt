@@ -1,4 +1,4 @@
-use Rattle.std.proofs.Common.{arith}
+use Rattle.std.proofs.Common.{arith, rules}
 use Rattle.cxl_model.specs.Hosts.{as_system}
 use Rattle.cxl_model.specs.Accepted.{breaks_block}
 use Rattle.cxl_check.proofs.Spots.{no_spots, spots_at}
@@ -9,3 +9,6 @@ loop-node-init c = rw c.new-spots.ensures.items (no_spots (breaks_block (as_syst
 
 pub returns : goal.returns
 returns c = spots_at (breaks_block (as_system c.args.host.now) c.args.rule) c.args.rule _ _ _ (omega arith) c.loop-node.invariant
+
+pub loop-node-preserved : goal.loop-node-preserved
+loop-node-preserved c = search rules

@@ -6,9 +6,6 @@ use Rattle.cxl_check.proofs.Spots.{all_spots}
 use Rattle.cxl_check.proofs.FirstOfRule.{first_breaches, none_past}
 use Rattle.cxl_check.proofs.places.ranges_spots.Goals as goal
 
-pub rule_spots-requires-clause-lower : goal.rule_spots-requires-clause-lower
-rule_spots-requires-clause-lower c = λ lower n i below. c.in-Some.ensures.first.rules lower n i below
-
 pub returns-in-Some : goal.returns-in-Some
 returns-in-Some c =
     let s = as_system c.args.host.now in
@@ -20,3 +17,11 @@ returns-in-Some c =
 
 pub returns : goal.returns
 returns c = rw c.new.ensures.items c.in-None.ensures.none
+
+pub rule_spots-requires : goal.rule_spots-requires
+rule_spots-requires c = record {
+  met = c.in-Some.ensures.met;
+  ready = c.requires;
+  tables = c.in_ok-tables.ensures;
+  lower = λ lower n i below. c.in-Some.ensures.first.rules lower n i below;
+}

@@ -1,8 +1,10 @@
-use Rattle.std.proofs.Common.{ℕ, ◌&&◌, sym, ◌∙◌, arith}
+use Rattle.std.proofs.Common.{ℕ, ◌≤◌, ◌&&◌, [], Option, sym, ap, subst, ◌∙◌, arith}
 use Rattle.std.specs.Prelude.{◌==◌}
 use Rattle.std.specs.List.{list_any}
-use Rattle.std.proofs.lemmas.Option.{slice_get_within}
+use Rattle.std.specs.Option.{option_map_or}
+use Rattle.std.proofs.lemmas.Option.{slice_get_within, slice_get_past}
 use Rattle.cxl_regs.specs.declared.decoder.Decoder.{Decoder}
+use Rattle.cxl_regs.specs.Registers.{Registers}
 use Rattle.cxl_regs.specs.Reading.{has_range, entries_of}
 use Rattle.cxl_check.proofs.Searches.{list_any_one, list_any_no, none_more}
 use Rattle.cxl_check.proofs.reach.lists.Goals as goal
@@ -27,3 +29,9 @@ returns c =
     rw c.block-block.ensures.value
     (sym (list_any_no (λ (d : Decoder). has_range c.args.range.now d && list_any (λ (port : ℕ). port == c.args.parent.port) (entries_of d)) c.block-block.result.now.decoders
     (λ k y is. let within = slice_get_within c.block-block.result.now.decoders k y is in none k y (omega arith) is)))
+
+pub returns-then-parent-count : goal.returns-then-parent-count
+returns-then-parent-count c =
+    let past = subst (λ (n : ℕ). n ≤ c.args.parent.node) c.count.ensures.count c.if-parent-count.true in
+    sym (ap (λ (o : Option Registers). list_any (λ (d : Decoder). has_range c.args.range.now d && list_any (λ (port : ℕ). port == c.args.parent.port) (entries_of d)) (option_map_or (λ block. block.decoders) o []))
+    (slice_get_past c.args.image.now c.args.parent.node past))

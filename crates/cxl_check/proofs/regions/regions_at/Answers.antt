@@ -1,11 +1,11 @@
-use Rattle.std.proofs.Common.{◌≡◌, ◌+◌, ◌≤◌, ◌<◌, List, length, get_or, take, sym, subst, arith}
+use Rattle.std.proofs.Common.{◌≡◌, ◌+◌, ◌≤◌, ◌<◌, List, [], length, get_or, take, sym, subst, arith}
 use Rattle.std.proofs.lemmas.List.{take_all}
 use Rattle.std.proofs.lemmas.Option.{slice_get-get_or, get_or_from_slice_get}
 use Rattle.cxl_model.specs.declared.found.Found.{Found}
 use Rattle.cxl_model.specs.Hosts.{as_system}
 use Rattle.cxl_check.specs.declared.firsts.RangeKey.{RangeKey}
 use Rattle.cxl_check.specs.inner.Listing.{AreListed}
-use Rattle.cxl_check.proofs.Listing.{one_listed}
+use Rattle.cxl_check.proofs.Listing.{none_listed, one_listed}
 use Rattle.cxl_check.proofs.regions.regions_at.Goals as goal
 
 pub known_of-known-requires-clause-met : goal.known_of-known-requires-clause-met
@@ -37,3 +37,11 @@ returns c =
     let keys : List RangeKey = c.args.keys.now in
     let past : length keys ≤ c.loop-key.key-index = omega arith in
     subst (λ (ks : List RangeKey). AreListed (as_system c.args.host.now) ks c.loop-key.regions.items) (take_all c.loop-key.key-index keys past) c.loop-key.invariant.listed
+
+pub loop-key-init : goal.loop-key-init
+loop-key-init c =
+    let s = as_system c.args.host.now in
+    record {
+      met = c.requires.met;
+      listed = subst (λ (regions : List Found). AreListed s [] regions) (sym c.in_ok-regions.ensures.items) (none_listed s c.args.keys.now);
+    }
