@@ -1,4 +1,4 @@
-use Rattle.std.proofs.Common.{◌≡◌, ℕ, ◌+◌, ◌/◌, ◌≤◌, ◌<◌, ◌++◌, true, false, not, List, [], length, get_or, drop, map, Option, Some, None, refl, sym, ap, subst, ◌∙◌, arith}
+use Rattle.std.proofs.Common.{◌≡◌, ℕ, ◌+◌, ◌/◌, ◌≤◌, ◌++◌, not, List, [], get_or, drop, map, Option, Some, None, refl, sym, ap, ◌∙◌, arith}
 use Rattle.std.specs.Prelude.{◌==◌, option_map, option_and_then, unwrap_or}
 use Rattle.std.proofs.Math.Nat.{div-le_self}
 use Rattle.std.proofs.lemmas.Bool.{ne_eqb}
@@ -6,8 +6,6 @@ use Rattle.cxl_enc.proofs.Ways.{few_ways}
 use Rattle.cxl_topo.proofs.Trees.{KnownTree}
 use Rattle.cxl_model.specs.Hosts.{as_system}
 use Rattle.cxl_model.specs.System.{System}
-use Rattle.cxl_pick.specs.declared.want.Want.{Want}
-use Rattle.cxl_window.specs.Fields.{WindowFields}
 use Rattle.cxl_pick.specs.Picking.{all_given, gives}
 use Rattle.cxl_pick.proofs.Parts.{at_target}
 use Rattle.cxl_pick.proofs.Known.{known_some, nothing_given}
