@@ -1,11 +1,14 @@
-use Rattle.std.proofs.Common.{◌≡◌, ℕ, ◌-◌, ◌/◌, ◌<◌, ◌≤◌, List, length, take, drop, replicate, Option, Some, None, sym, ap, subst, ◌∙◌, arith}
+use Rattle.std.proofs.Common.{◌≡◌, ℕ, ◌-◌, ◌*◌, ◌/◌, ◌^◌, ◌<◌, ◌≤◌, List, length, take, drop, replicate, Option, Some, None, sym, ap, subst, ◌∙◌, arith}
 use Rattle.cxl_topo.specs.declared.node.Node.{Node}
 use Rattle.cxl_topo.specs.declared.node.Parent.{Parent}
 use Rattle.cxl_topo.specs.Tree.{parent_of, ports_above}
 use Rattle.cxl_topo.proofs.Trees.{KnownTree, parent_is_port, ports_some}
 use Rattle.cxl_topo.proofs.There.{parent_there}
+use Rattle.cxl_enc.specs.Codes.{bits_of}
+use Rattle.cxl_model.specs.Ranges.{ways_above}
 use Rattle.cxl_model.specs.Regions.{region_range}
 use Rattle.cxl_model.specs.System.{System}
+use Rattle.cxl_model.proofs.RangeCounts.{no_ways_above}
 use Rattle.cxl_model.specs.Dealing.{slot_steps}
 use Rattle.cxl_walk.specs.Routes.{no_step}
 use Rattle.cxl_walk.proofs.Slots.{IsAbove, own_found, own_ways, past_steps, past_entry, more_steps, less_rest, step_behind, zeros_behind}
@@ -102,3 +105,14 @@ returns-in-None-clause-rest t c = λ s w found same are root.
     let none = own_found s found c.args.own.now p.node None (within_in nodes s.nodes p.node c.args.node before c.requires.here same) are c.in-None.ensures in
     c.put_steps.ensures.rest s w found same are root
     ∙ ap (λ (k : ℕ). c.args.slot / k) (sym (past_entry s w (region_range found) (known_as nodes s.nodes tree same) c.args.slot c.args.node p (up_in nodes s.nodes c.args.node (Some p) up same) none))
+
+pub returns-in_default-clause-rest : goal.returns-in_default-clause-rest
+returns-in_default-clause-rest t c = λ s w found same are root.
+    let nodes = c.args.topo.now.nodes in
+    let tree : KnownTree nodes = record { tree = c.count-count.ensures.tree; laws = c.tree_laws.ensures.laws nodes c.count-count.ensures.tree } in
+    let none = up_in nodes s.nodes c.args.node None (parent_there nodes c.args.node c.node.result.now None c.node.ensures c.in_default.is) same in
+    let alone = no_ways_above s (region_range found) c.args.node (known_as nodes s.nodes tree same) none in
+    c.requires.whole ∙ ap (λ (k : ℕ). c.args.slot / k) (root ∙ sym (single (2 ^ bits_of w.ways) (ways_above s (region_range found) c.args.node) alone))
+  where
+    single : (a b : ℕ) → b ≡ 1 → a * b ≡ a
+    single a b one = rw one (omega arith)

@@ -1,9 +1,10 @@
-use Rattle.std.proofs.Common.{◌≡◌, ◌<◌, length, ap, ◌∙◌, arith}
+use Rattle.std.proofs.Common.{◌≡◌, ◌<◌, List, length, sym, ap, subst, ◌∙◌, arith}
 use Rattle.cxl_window.specs.Fields.{WindowFields}
 use Rattle.cxl_deal.specs.Weaves.{WeaveFields, weave_ways, dealt_slot, dealt_offset}
 use Rattle.cxl_model.specs.declared.found.Found.{Found}
 use Rattle.cxl_model.specs.System.{System, IsSystem}
 use Rattle.cxl_model.specs.Regions.{IsRegionIn, weave_fields}
+use Rattle.cxl_walk.specs.declared.route.Route.{Route}
 use Rattle.cxl_walk.specs.Keeping.{KeptFields, IsKept, IsSlotRoute}
 use Rattle.cxl_walk.proofs.Keepings.{facts, WeaveLaws, in_slot, span_low, RouteLaws, routed, device_byte, route_there}
 use Rattle.cxl_walk.proofs.kept.Kept.route.Goals as goal
@@ -75,3 +76,11 @@ returns-clause-zeros c =
     let there = route_there c.args.self.now c.items.result.now c.deal-dealt.result.slot c.index-items-dealt.result routes within c.index-items-dealt.is in
     let own : IsSlotRoute s w found c.deal-dealt.result.slot c.index-items-dealt.result = is.each c.deal-dealt.result.slot c.index-items-dealt.result there in
     own.zeros
+
+pub bounds-items-dealt : goal.bounds-items-dealt
+bounds-items-dealt c =
+    let weave : c.self.inside.weave ≡ weave_fields c.requires.found c.requires.w = ap (λ (k : KeptFields). k.weave) c.self.view_is ∙ c.requires.is.weave in
+    let routes = c.items.ensures ∙ ap (λ (k : KeptFields). k.routes) c.self.view_is in
+    let within : c.deal-dealt.result.slot < length c.args.self.now.routes =
+    omega (arith, c.deal-dealt.ensures.within, ap (λ (v : WeaveFields). weave_ways v) weave, c.weaves_fill_their_regions.ensures.ways c.requires.s c.requires.w c.requires.found c.requires.system c.requires.region, c.requires.is.count) in
+    subst (λ (rs : List Route). c.deal-dealt.result.slot < length rs) (sym routes) within
