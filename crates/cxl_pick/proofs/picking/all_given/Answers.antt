@@ -14,10 +14,9 @@ give_for_each-requires c = record {
 }
 
 pub returns : goal.returns
-returns c = record {
-  gifts = c.in_ok-give_for_each.ensures.gifts;
-  given = sym (ap (λ (each : Bool). if each then Some c.give_for_each.new.given.items else None) c.if-not-branch.false) ∙ c.in_ok-give_for_each.ensures.given;
-}
+returns c =
+    let given = sym (ap (λ (each : Bool). if each then Some c.give_for_each.new.given.items else None) c.if-not-branch.false) ∙ c.in_ok-give_for_each.ensures.given in
+    record { gifts = c.in_ok-give_for_each.ensures.gifts; given = cc given }
 
 pub returns-then-not-branch : goal.returns-then-not-branch
 returns-then-not-branch c = record {
