@@ -14,4 +14,4 @@ pub returns : goal.returns
 returns c = spots_at (breaks (as_system c.args.host.now) c.args.rule) c.args.rule _ _ _ (omega arith) c.loop-node.invariant.spots
 
 pub loop-node-preserved : goal.loop-node-preserved
-loop-node-preserved c = search rules
+loop-node-preserved c = search rules depth 3
