@@ -19,3 +19,6 @@ loop-at-preserved g c =
       alone = c.in_ok-at.ensures.alone ∙ c.loop-at.invariant.alone;
       unswallowed = λ alone. c.in_ok-at.ensures.unswallowed (c.loop-at.invariant.alone ∙ alone) ∙ c.loop-at.invariant.unswallowed alone;
     }
+
+pub returns-clause-ok : goal.returns-clause-ok
+returns-clause-ok g c = (rw (take_all c.loop-at.at c.args.bytes.now (omega arith)) at c.loop-at.invariant.taken)
