@@ -1,4 +1,4 @@
-use Rattle.std.proofs.Common.{◌≡◌, ◌+◌, ◌<◌, false, List, length, sym, ap, subst, ◌∙◌, arith}
+use Rattle.std.proofs.Common.{◌≡◌, ◌+◌, ◌<◌, false, List, length, sym, ap, subst, ◌∙◌, arith, refl}
 use Rattle.std.specs.Result.{is_err}
 use Rattle.cxl_regs.specs.Registers.{Registers}
 use Rattle.cxl_regs.specs.Blocks.{blocks_after}
@@ -64,3 +64,27 @@ returns-clause-last g c =
       | then-self-len w ↦ told_last _ _ w.result-is (omega (arith, w.if-self-len.true, c.len.ensures))
       | else-self-len w ↦ told_more _ _ w.result-is (λ last. omega (arith, last, w.if-self-len.false, c.len.ensures))
     ]
+
+pub returns-then-is_err-clause-counts : goal.returns-then-is_err-clause-counts
+returns-then-is_err-clause-counts g c = c.write32.ensures.counts
+
+pub returns-then-is_err-clause-alone : goal.returns-then-is_err-clause-alone
+returns-then-is_err-clause-alone g c = c.write32.ensures.alone
+
+pub returns-then-is_err-clause-unswallowed : goal.returns-then-is_err-clause-unswallowed
+returns-then-is_err-clause-unswallowed g c = λ other. absurd (other refl)
+
+pub returns-then-is_err-clause-unfailed : goal.returns-then-is_err-clause-unfailed
+returns-then-is_err-clause-unfailed g c = λ other. absurd (other refl)
+
+pub returns-then-is_err-clause-on_way : goal.returns-then-is_err-clause-on_way
+returns-then-is_err-clause-on_way g c = λ start before. before
+
+pub returns-then-is_err-clause-kept_words : goal.returns-then-is_err-clause-kept_words
+returns-then-is_err-clause-kept_words g c = c.requires.words
+
+pub returns-clause-counts : goal.returns-clause-counts
+returns-clause-counts g c = c.write32.ensures.counts
+
+pub returns-clause-alone : goal.returns-clause-alone
+returns-clause-alone g c = c.write32.ensures.alone
