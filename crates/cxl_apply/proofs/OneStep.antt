@@ -41,6 +41,11 @@ module _ (stepped : Stepped) (Last : Type 0) where
   pub told_more : stepped ≡ More → (Last → ⊥) → (stepped ≡ Done → Last) × (Last → stepped ≡ Done)
   told_more is never = (λ done. absurd (let e : More ≡ Done = sym is ∙ done in cc), λ last. absurd (never last))
 
+-- a write of a list has the word that all of them have
+pub has_word : (blocks : List Registers) (ws : List Write) (n : ℕ) (write : Write) → write ≡ get_or ws n write → n < length ws → HasWordsOf blocks ws → IsPlace blocks write.node write.off
+has_word blocks ws n write is within words =
+    subst (λ (w : Write). IsPlace blocks w.node w.off) (sym is) (words n write within)
+
 -- the places of words stay
 pub keeps_words : ((blocks : List Registers) (node off v : ℕ) → HasPlacesOf blocks (blocks_after blocks node off v)) → (blocks left : List Registers) (ws : List Write) (node off v : ℕ)
     → left ≡ blocks_after blocks node off v → HasWordsOf blocks ws → HasWordsOf left ws

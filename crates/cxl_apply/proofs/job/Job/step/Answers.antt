@@ -1,12 +1,12 @@
 use Rattle.std.proofs.Common.{◌≡◌, ◌+◌, ◌<◌, false, List, length, sym, ap, subst, ◌∙◌, arith, refl}
 use Rattle.std.specs.Result.{is_err}
 use Rattle.cxl_regs.specs.Registers.{Registers}
-use Rattle.cxl_regs.specs.Blocks.{blocks_after}
+use Rattle.cxl_regs.specs.Blocks.{blocks_after, IsPlace}
 use Rattle.cxl_bus.specs.Trail.{trail_after}
 use Rattle.cxl_apply.specs.declared.write.Write.{Write}
 use Rattle.cxl_apply.specs.Jobs.{blocks_done}
 use Rattle.cxl_apply.specs.Steps.{JobState, HasWordsOf, IsSent, MakesWrite}
-use Rattle.cxl_apply.proofs.OneStep.{at_ok, told_last, told_more, write_failed, write_sent, keeps_words, makes, made_on_way}
+use Rattle.cxl_apply.proofs.OneStep.{at_ok, told_last, told_more, write_failed, write_sent, keeps_words, has_word, makes, made_on_way}
 use Rattle.cxl_apply.proofs.job.Job.step.Goals as goal
 use Rattle.cxl_apply.proofs.job.Job.step.Goals.{then-self-len, else-self-len}
 
@@ -88,3 +88,11 @@ returns-clause-counts g c = c.write32.ensures.counts
 
 pub returns-clause-alone : goal.returns-clause-alone
 returns-clause-alone g c = c.write32.ensures.alone
+
+pub write32-requires : goal.write32-requires
+write32-requires g c =
+    let write : Write = c.index-write.result.now in
+    let words = subst (λ (j : JobState). HasWordsOf c.args.image.now j.writes) (sym c.self.view_is) c.requires.words in
+    let within : c.self.inside.done < length c.self.inside.writes.items = subst (λ (j : JobState). j.done < length j.writes) (sym c.self.view_is) c.requires.left in
+    subst (λ (blocks : List Registers). IsPlace blocks write.node write.off) (sym c.requires.same)
+    (has_word c.args.image.now c.self.inside.writes.items c.self.inside.done write c.index-write.ensures within words)
