@@ -46,10 +46,10 @@ fn is_picked(rt: &impl Abort, alloc: Global, row: &Row) -> bool {
     shows(alloc, &picked(rt, alloc, &host, &want), row.picked)
 }
 
-#[test]
-fn picks(rt: HostRuntime) {
-    for row in ROWS.iter() {
-        row_passes(&rt, row.name, is_picked(&rt, rt.alloc(), row));
+/// Checks each row.
+fn are_picked(rt: &(impl Abort + AllocGlobal), rows: &[Row]) {
+    for row in rows {
+        row_passes(rt, row.name, is_picked(rt, rt.alloc(), row));
     }
 }
 
@@ -110,7 +110,13 @@ const THREE_BY_TWO_BY_TWO: &str = "0x382, 0x382, 0x382, \
     0x1b02 7 0 0x10000000 0, 0x1b02 7 1 0x10000000 0, \
     0x1b02 8 0 0x10000000 0, 0x1b02 8 1 0x10000000 0";
 
-const ROWS: [Row; 20] = [
+/// Windows, ways and sizes.
+#[test]
+fn picks_by_ways_and_sizes(rt: HostRuntime) {
+    are_picked(&rt, BY_WAYS_AND_SIZES);
+}
+
+const BY_WAYS_AND_SIZES: &[Row] = &[
     Row {
         name: "the second window, where the end of the first is taken",
         nodes: ONE_BY_ONE,
@@ -202,6 +208,15 @@ const ROWS: [Row; 20] = [
         ways: 1,
         picked: "Ok([2])",
     },
+];
+
+/// Endpoints and bridges without memory or a decoder, or with a region.
+#[test]
+fn picks_beside_what_is_taken(rt: HostRuntime) {
+    are_picked(&rt, BESIDE_WHAT_IS_TAKEN);
+}
+
+const BESIDE_WHAT_IS_TAKEN: &[Row] = &[
     Row {
         name: "two ways where the first endpoint has no ram",
         nodes: FIRST_WITHOUT_RAM,
@@ -247,6 +262,15 @@ const ROWS: [Row; 20] = [
         ways: 1,
         picked: "Ok([3])",
     },
+];
+
+/// How endpoints are picked below ports.
+#[test]
+fn picks_below_ports(rt: HostRuntime) {
+    are_picked(&rt, BELOW_PORTS);
+}
+
+const BELOW_PORTS: &[Row] = &[
     Row {
         name: "sixteen ways without thirds",
         nodes: SIXTEEN_WITHOUT_THIRDS,

@@ -114,6 +114,13 @@ fn is_answer(rt: &impl Abort, alloc: Global, row: &Answer) -> bool {
     }
 }
 
+/// Checks each row.
+fn are_answers(rt: &(impl Abort + AllocGlobal), rows: &[Answer]) {
+    for row in rows {
+        row_passes(rt, row.name, is_answer(rt, rt.alloc(), row));
+    }
+}
+
 fn is_plan(rt: &impl Abort, alloc: Global, plan: &Plan, text: &str) -> bool {
     let found = &plan.found;
     let own = [
@@ -123,13 +130,6 @@ fn is_plan(rt: &impl Abort, alloc: Global, plan: &Plan, text: &str) -> bool {
         u64::from(found.ways),
     ];
     are_written(rt, alloc, &own, text)
-}
-
-#[test]
-fn answers(rt: HostRuntime) {
-    for row in ANSWERS.iter() {
-        row_passes(&rt, row.name, is_answer(&rt, rt.alloc(), row));
-    }
 }
 
 /// Two bridges with two endpoints of 256 GiB each, of which the first has no memory.
@@ -171,7 +171,13 @@ const OVER_THREE_TWICE: &str =
 
 const RAM: MemKind = MemKind::Ram;
 
-const ANSWERS: [Answer; 21] = [
+/// Which endpoints can share a region.
+#[test]
+fn plans_of_named_endpoints(rt: HostRuntime) {
+    are_answers(&rt, OF_NAMED_ENDPOINTS);
+}
+
+const OF_NAMED_ENDPOINTS: &[Answer] = &[
     Answer {
         name: "four ways of four endpoints",
         nodes: TWO_BY_TWO,
@@ -271,6 +277,15 @@ const ANSWERS: [Answer; 21] = [
         endpoints: "2 3 4 5",
         plan: "Span(2, NoRoom(Room { start: 0, limit: 0 }))",
     },
+];
+
+/// What other regions left of devices, decoders and windows.
+#[test]
+fn plans_in_what_is_left(rt: HostRuntime) {
+    are_answers(&rt, IN_WHAT_IS_LEFT);
+}
+
+const IN_WHAT_IS_LEFT: &[Answer] = &[
     Answer {
         name: "ram behind persistent memory",
         nodes: ONE_OF_BOTH_KINDS,
@@ -337,6 +352,15 @@ const ANSWERS: [Answer; 21] = [
         endpoints: "2 3",
         plan: "NoDecoder(1)",
     },
+];
+
+/// How many ways there can be, and in which window.
+#[test]
+fn plans_by_ways_and_windows(rt: HostRuntime) {
+    are_answers(&rt, BY_WAYS_AND_WINDOWS);
+}
+
+const BY_WAYS_AND_WINDOWS: &[Answer] = &[
     Answer {
         name: "five ways",
         nodes: ONE_BY_FIVE,

@@ -281,11 +281,11 @@ const FAULTY_FILES: &[Row] = &[
 
 /// Each fault of a topology file.
 #[test]
-fn topologies(rt: HostRuntime) {
-    are_checked(&rt, &TOPOLOGIES);
+fn tables_of_topologies(rt: HostRuntime) {
+    are_checked(&rt, TABLES_OF_TOPOLOGIES);
 }
 
-const TOPOLOGIES: [Row; 14] = [
+const TABLES_OF_TOPOLOGIES: &[Row] = &[
     Row {
         name: "no TOML document",
         table: TWO_BRIDGES,
@@ -356,6 +356,15 @@ const TOPOLOGIES: [Row; 14] = [
         code: 4,
         text: "error: topology kind endpoint 1 port\n",
     },
+];
+
+/// Each fault of a tree.
+#[test]
+fn trees_of_topologies(rt: HostRuntime) {
+    are_checked(&rt, TREES_OF_TOPOLOGIES);
+}
+
+const TREES_OF_TOPOLOGIES: &[Row] = &[
     Row {
         name: "a parent that is not there",
         table: TWO_BRIDGES,
