@@ -1,4 +1,4 @@
-use Rattle.std.proofs.Common.{◌≡◌, length, ap, arith}
+use Rattle.std.proofs.Common.{◌≡◌, length, ap, arith, rules}
 use Rattle.cxl_held.specs.Trails.{Trailed}
 use Rattle.cxl_held.proofs.TrailRoom.{fails_full}
 use Rattle.cxl_held.proofs.trail_bus.TrailBusRegs.write32.Goals as goal
@@ -10,3 +10,6 @@ returns-then-len-ge-ROOM-clause-failed c =
     let few = c.self.invariant.1 in
     let counted = c.self.invariant.2 in
     fails_full c.args.self.now c.overrun.new.self (omega (arith, words, few)) (omega (arith, places, counted)) c.overrun.ensures
+
+pub returns-clause-after : goal.returns-clause-after
+returns-clause-after c = search rules
