@@ -73,6 +73,7 @@ fn comes_to(alloc: Global, of: HeldText, held: Held, script: &[u8]) -> Result<Ou
         → ComesTo (IsToldOver of first script.now) result }
 {
     if script.len() > SCRIPT_LIMIT {
+        drop(held);
         return Ok(too_long());
     }
     match text_behind(alloc, of, held, script) {
@@ -89,7 +90,10 @@ fn text_behind(alloc: Global, of: HeldText, held: Held, script: &[u8]) -> Result
         × IsTextOf of last (last_words script.now last.settled.nodes turns) text.items) }
 {
     let after = behind_script(alloc, held, script)?;
-    text_of(alloc, of, &after)
+    let text = text_of(alloc, of, &after);
+    // a call lets a session go part by part, which is proved once
+    drop(after);
+    text
 }
 
 /// The session behind a script, which tells what its last line sent.
@@ -141,8 +145,13 @@ fn behind_last(alloc: Global, held: Held, line: &[u8]) -> Result<Held, Memory>
         × (after.regs.trail ≡ words_sent turns) × (failed_in turns ≡ [])) }
 {
     let mut after = held;
-    carry_out_last(alloc, &mut after, line)?;
-    Ok(after)
+    match carry_out_last(alloc, &mut after, line) {
+        Ok(()) => Ok(after),
+        Err(Memory) => {
+            drop(after);
+            Err(Memory)
+        }
+    }
 }
 
 /// Carries out the last line of a session.

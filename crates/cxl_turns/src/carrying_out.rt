@@ -43,7 +43,11 @@ pub(crate) fn carry_out_line<K: Sink, R: Regs, M: Roll>(
     match read_command(alloc, line) {
         Ok(None) => Ok(()),
         Ok(Some(command)) => {
-            carry_out_command(alloc, session, &command, reply, lines, out, regs, media)
+            let carried = carry_out_command(
+                alloc, session, &command, reply, lines, out, regs, media,
+            );
+            drop(command);
+            carried
         }
         Err(LineFault::Bad(fault)) => tell_bad_line(fault, session, lines, out),
         Err(LineFault::Memory) => Err(LineStop::Memory),
@@ -87,5 +91,8 @@ pub(crate) fn tell_bad_line<K: Sink>(
         → IsCarriedOut m (Err fault ∷ []) session.now regs regs media (K.state out.old) (K.state out.new) result }
     ensures sink { (K.state out.old).faults ≤ (K.state out.new).faults }
 {
-    write_reply(&Reply::BadLine(fault), session.topo(), lines, out)
+    let reply = Reply::BadLine(fault);
+    let told = write_reply(&reply, session.topo(), lines, out);
+    drop(reply);
+    told
 }

@@ -55,7 +55,7 @@ pub fn carry_out_lines<S: Source, K: Sink, R: Regs, M: Roll>(
     };
     let mut reply = Reply::NothingPending;
     let mut replies = Lines::new(alloc);
-    carry_out_read(
+    let ending = carry_out_read(
         alloc,
         session,
         &mut reader,
@@ -65,7 +65,10 @@ pub fn carry_out_lines<S: Source, K: Sink, R: Regs, M: Roll>(
         out,
         regs,
         media,
-    )
+    );
+    // a call lets a reply go, of whatever kind, which is proved once
+    drop(reply);
+    ending
 }
 
 /// Carries out the lines that a reader takes of a script, from its first one on.

@@ -19,8 +19,8 @@ returns-in-Ok-None g c =
       bus = le_refl regs.faults;
     }
 
-pub carry_out_command-requires : goal.carry_out_command-requires
-carry_out_command-requires g c =
+pub carry_out_command-carried-requires : goal.carry_out_command-carried-requires
+carry_out_command-carried-requires g c =
     let some = rw c.in-Ok-Some.field-0-is at c.in-Ok-Some.ensures in
     record { stands = c.requires; ranged = c.asked_commands_are_ranged.ensures c.args.line.now c.in-Ok-Some.command some }
 
@@ -28,9 +28,9 @@ pub returns-in-Ok-Some : goal.returns-in-Ok-Some
 returns-in-Ok-Some g c =
     let some = rw c.in-Ok-Some.field-0-is at c.in-Ok-Some.ensures in
     record {
-      carried = rw some c.carry_out_command.ensures.carried;
-      sink = c.carry_out_command.ensures.sink;
-      bus = c.carry_out_command.ensures.bus;
+      carried = rw some c.carry_out_command-carried.ensures.carried;
+      sink = c.carry_out_command-carried.ensures.sink;
+      bus = c.carry_out_command-carried.ensures.bus;
     }
 
 pub returns-in-Err-Bad : goal.returns-in-Err-Bad

@@ -12,10 +12,10 @@ returns-in-Err g c =
     } in
     record { ends = end.ends; source = end.source; sink = end.sink; bus = end.bus }
 
-pub carry_out_read-requires : goal.carry_out_read-requires
-carry_out_read-requires g c = record { stands = c.requires; fresh = c.in-Ok.ensures }
+pub carry_out_read-ending-requires : goal.carry_out_read-ending-requires
+carry_out_read-ending-requires g c = record { stands = c.requires; fresh = c.in-Ok.ensures }
 
 pub returns : goal.returns
 returns g c =
-    let end = c.carry_out_read.ensures in
+    let end = c.carry_out_read-ending.ensures in
     record { ends = end.ends; source = end.source; sink = end.sink; bus = end.bus }
