@@ -121,8 +121,32 @@ fn pick_first(alloc: Global, host: &Host, want: &Want) -> Result<Option<Vec<u32>
     tree_laws();
     let highest = highest_ports(alloc, host.topo)?;
     let mut tables = Vec::new(alloc);
+    let picked = pick_over(&mut tables, alloc, host, want, &highest);
+    drop(tables);
+    picked
+}
+
+/// The same over the highest ports of all nodes, with the tables of what nodes give, which are made as they are asked for. Takes
+/// memory.
+fn pick_over(
+    tables: &mut Vec<Gifts>,
+    alloc: Global,
+    host: &Host,
+    want: &Want,
+    highest: &[u8],
+) -> Result<Option<Vec<u32>>, AllocError>
+    requires system { IsSystem (as_system host.now) }
+    requires ready { IsOrderlySystem (as_system host.now) }
+    requires sound { HasWaysAndSize want.now }
+    requires count { length highest.now ≡ length host.now.topo.now.nodes }
+    requires highest { AreHighest host.now.topo.now.nodes highest.now }
+    requires tables { All (AreGifts (as_system host.now) want.now) tables.old.items }
+    ensures { IfOk result (λ o. MatchOption o (NothingGiven (as_system host.now) want.now)
+        (λ set. (w : WindowFields) × IsPicked (as_system host.now) want.now w set.items)) }
+{
+    tree_laws();
     for w in host.windows {
-        match pick_in(&mut tables, alloc, host, want, w, &highest)? {
+        match pick_in(tables, alloc, host, want, w, highest)? {
             Some(given) => {
                 let set = in_order(alloc, host.topo.count(), &given)?;
                 return Ok(Some(set));

@@ -1,4 +1,4 @@
-use Rattle.std.proofs.Common.{◌≡◌, ℕ, ◌<◌, ◌≤◌, List, length, get_or, Some, Vec, Global, sym, ap, ◌∙◌, subst, inl, inr, arith}
+use Rattle.std.proofs.Common.{◌≡◌, ℕ, ◌<◌, List, length, get_or, Some, Vec, Global, sym, ap, ◌∙◌, subst, inl, inr, arith}
 use Rattle.std.specs.Prelude.{slice_get, option_map, All}
 use Rattle.std.proofs.lemmas.Bool.{cases_eq}
 use Rattle.std.proofs.lemmas.Option.{slice_get-get_or, slice_get_within, same_Some}
@@ -8,7 +8,7 @@ use Rattle.cxl_model.specs.System.{System}
 use Rattle.cxl_pick.specs.declared.want.Want.{Want}
 use Rattle.cxl_pick.specs.Picking.{given_in, AreInOrder}
 use Rattle.cxl_pick.proofs.Picks.{given_low, window_there}
-use Rattle.cxl_pick.proofs.picking.pick_first.Goals as goal
+use Rattle.cxl_pick.proofs.picking.pick_over.Goals as goal
 
 -- the window at its place
 window_at : (windows : List WindowFields) (i : ℕ) (w : WindowFields) → i < length windows → w ≡ get_or windows i w → slice_get windows i ≡ Some w
@@ -23,7 +23,7 @@ in_order-requires c =
     let is : given_in s want w ≡ Some c.in-Some.given.items =
     sym c.in_ok-given.ensures.given ∙ ap (option_map (λ (x : Vec ℕ Global). x.items)) c.in-Some.is in
     let low = given_low s want w c.in-Some.given.items (c.tree_laws.ensures.laws s.nodes c.requires.system.tree) c.requires.system (window_there s c.requires.system c.loop-w.w-index w at) is in
-    let read = c.deref-in-Some.ensures.value in
+    let read = c.deref.ensures.value in
     let count = c.count.ensures.count in
     subst (λ (xs : List ℕ). All (λ n. n < c.count.result) xs) (sym read) (subst (λ (k : ℕ). All (λ n. n < k) c.in-Some.given.items) (sym count) low)
 
@@ -38,7 +38,7 @@ returns-in-Some c =
         there = window_at s.windows c.loop-w.w-index w c.loop-w-test.true c.w-item.is;
         given = c.in-Some.given.items;
         gives = sym c.in_ok-given.ensures.given ∙ ap (option_map (λ (x : Vec ℕ Global). x.items)) c.in-Some.is;
-        rising = subst (λ (xs : List ℕ). AreInOrder xs c.in_ok-set-in-Some.set.items) c.deref-in-Some.ensures.value c.in_ok-set-in-Some.ensures;
+        rising = subst (λ (xs : List ℕ). AreInOrder xs c.in_ok-set-in-Some.set.items) c.deref.ensures.value c.in_ok-set-in-Some.ensures;
         first = c.loop-w.invariant.1;
       },
     )
@@ -71,7 +71,7 @@ pub pick_in-requires : goal.pick_in-requires
 pick_in-requires c = record {
   ready = c.requires.ready;
   sound = c.requires.sound;
-  count = ap length c.deref.ensures.value ∙ c.in_ok-highest.ensures.count;
-  highest = λ k parent up. subst (λ (hs : List ℕ). parent.port ≤ get_or hs parent.node 0) (sym c.deref.ensures.value) (c.in_ok-highest.ensures.highest k parent up);
+  count = c.requires.count;
+  highest = c.requires.highest;
   tables = c.loop-w.invariant.0;
 }

@@ -4,7 +4,7 @@ use Rattle.cxl_window.specs.Fields.{WindowFields}
 use Rattle.cxl_model.specs.Hosts.{as_system}
 use Rattle.cxl_pick.specs.Picking.{given_in}
 use Rattle.cxl_pick.specs.inner.Gifts.{AreGifts}
-use Rattle.cxl_pick.proofs.picking.pick_first.Given as goal
+use Rattle.cxl_pick.proofs.picking.pick_over.Given as goal
 
 abbrev pub invariant-loop-w : goal.invariant-loop-w
 invariant-loop-w l =
