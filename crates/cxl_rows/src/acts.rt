@@ -56,7 +56,9 @@ pub(crate) fn opened<R: Regs, M: Roll>(
 
 /// Appends what a line that asks for no command is answered.
 fn refuse(rt: &impl Abort, session: &Session, fault: BadLine, text: &mut Vec<u8>) {
-    put_reply(&Reply::BadLine(fault), session.topo(), text).expect(rt, "memory");
+    let reply = Reply::BadLine(fault);
+    put_reply(&reply, session.topo(), text).expect(rt, "memory");
+    drop(reply);
 }
 
 /// Carries out a command, and appends the text of its reply.
@@ -78,6 +80,7 @@ fn act<R: Regs, M: Roll>(
         .act(alloc, command, regs, media)
         .expect(rt, "memory");
     put_reply(&reply, session.topo(), text).expect(rt, "memory");
+    drop(reply);
 }
 
 /// The same of a line, which may ask for nothing.
@@ -96,7 +99,10 @@ fn act_on_line<R: Regs, M: Roll>(
     asked_commands_are_ranged();
     match read_command(alloc, line.as_bytes()) {
         Ok(None) => {}
-        Ok(Some(command)) => act(rt, alloc, session, &command, text, regs, media),
+        Ok(Some(command)) => {
+            act(rt, alloc, session, &command, text, regs, media);
+            drop(command);
+        }
         Err(LineFault::Bad(fault)) => refuse(rt, session, fault, text),
         Err(LineFault::Memory) => panic!(rt; "memory"),
     }
@@ -158,16 +164,10 @@ fn comes_to<R: Regs, M: Roll>(
 ) -> bool {
     match opened(rt, alloc, script, regs, media) {
         Ok(mut session) => {
-            script.code == 0
-                && is_answered(
-                    rt,
-                    alloc,
-                    &mut session,
-                    script.lines,
-                    script.text,
-                    regs,
-                    media,
-                )
+            let (lines, text) = (script.lines, script.text);
+            let is_so = is_answered(rt, alloc, &mut session, lines, text, regs, media);
+            drop(session);
+            script.code == 0 && is_so
         }
         Err(fault) => script.code == code_of_unopened(fault),
     }
@@ -178,8 +178,10 @@ fn comes_to_over<M: Roll>(rt: &impl Abort, alloc: Global, script: &Script, media
     let fails = Vec::from_slice(alloc, script.fails).expect(rt, "memory");
     let mut failing = FailingBus::new(alloc, fails);
     let mut sim = SimBus::new(alloc);
-    comes_to(rt, alloc, script, &mut failing, media)
-        && (!script.fails.is_empty() || comes_to(rt, alloc, script, &mut sim, media))
+    let comes = comes_to(rt, alloc, script, &mut failing, media)
+        && (!script.fails.is_empty() || comes_to(rt, alloc, script, &mut sim, media));
+    drop(failing);
+    comes
 }
 
 /// Whether a script comes to its text and its exit status command by command, over both kinds of device memory.
@@ -366,6 +368,7 @@ fn all_keep<R: Regs, M: Roll>(
         replies(rt, alloc, &mut session, row.line, regs, media);
         row_passes(rt, row.line, keeps(&session, row));
     }
+    drop(session);
 }
 
 /// The same over both kinds of device memory.

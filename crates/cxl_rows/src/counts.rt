@@ -116,7 +116,13 @@ fn counts(rt: &impl Abort, alloc: Global, row: &Count) -> bool {
         &mut regs,
         &mut media,
     );
-    status.code() == 0 && regs.powered == 1 && regs.read == row.read && regs.written == row.written
+    let once = regs.powered == 1 && regs.read == row.read && regs.written == row.written;
+    drop(files);
+    drop(source);
+    drop(sink);
+    drop(regs);
+    drop(media);
+    status.code() == 0 && once
 }
 
 #[test]

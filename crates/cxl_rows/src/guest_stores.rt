@@ -106,15 +106,15 @@ fn is_led(rt: &impl Abort, host: &Real, line: &str) -> bool
 fn are_led(rt: &impl Abort, alloc: Global, row: &Row) -> bool {
     let host = host_of(rt, alloc, row);
     let mut count = 0_u32;
+    let mut led = true;
     for line in row.stores.split('\n') {
         if !line.is_empty() {
-            if !is_led(rt, &host, line) {
-                return false;
-            }
+            led = led && is_led(rt, &host, line);
             count = count.saturating_add(1);
         }
     }
-    count == 12
+    drop(host);
+    led && count == 12
 }
 
 /// Checks each row.

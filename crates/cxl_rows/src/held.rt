@@ -1,10 +1,13 @@
 //! A session that a program keeps: how it opens, what its lines are answered, which words they sent, and its image.
 
+ghost use Rattle.cxl_held.specs.Sessions.{IsKept};
+
 use crate::host_files::TWO_ENDPOINTS;
 use crate::rows::{ROOM, bytes, files_of, sink_of};
 use crate::tables::TWO_BRIDGES;
 use cxl_held::Held;
 use cxl_io::{MemFetch, MemSink, MemSource};
+use cxl_shell::Status;
 use std::alloc::Global;
 use std::process::Abort;
 
@@ -19,10 +22,57 @@ fn sink(rt: &impl Abort, alloc: Global) -> MemSink {
     sink_of(rt, alloc, ROOM, 0)
 }
 
+/// A session on the host after reset, which asks for each of two files once.
+fn opened(rt: &impl Abort, alloc: Global, out: &mut MemSink) -> Held
+    ensures { IsKept result }
+{
+    let mut files = files(rt, alloc, b"");
+    let held = match Held::open_from_reset(alloc, "table", "topology", &mut files, out) {
+        Ok(held) => held,
+        Err(_) => panic!(rt; "it opens"),
+    };
+    assert!(rt;
+        files.asked().len() == 2,
+        "each of two files is asked for once"
+    );
+    drop(files);
+    held
+}
+
+/// The same on an image, which asks for each of three files once.
+fn opened_on(rt: &impl Abort, alloc: Global, image: &[u8], out: &mut MemSink) -> Held
+    ensures { IsKept result }
+{
+    let mut files = files(rt, alloc, image);
+    let held = match Held::open_from_image(alloc, "table", "topology", "image", &mut files, out) {
+        Ok(held) => held,
+        Err(_) => panic!(rt; "it opens on an image"),
+    };
+    assert!(rt;
+        files.asked().len() == 3,
+        "each of three files is asked for once"
+    );
+    drop(files);
+    held
+}
+
+/// Carries out lines, which end so.
+fn act(rt: &impl Abort, alloc: Global, held: &mut Held, text: &str, code: u8, out: &mut MemSink)
+    requires { IsKept held.old }
+    ensures { IsKept held.new }
+{
+    let mut lines = lines(rt, alloc, text);
+    let status = held.act(alloc, &mut lines, out);
+    drop(lines);
+    assert!(rt; status.code() == code, "status of {text}");
+}
+
 fn lines(rt: &impl Abort, alloc: Global, text: &str) -> MemSource {
     let bytes = Vec::from_slice(alloc, text.as_bytes()).expect(rt, "memory");
     MemSource::new(bytes, Vec::new(alloc))
 }
+
+const CREATE: &str = "create r0 ram 0x20000000 e0 e1\n";
 
 const CREATED: &str = "created r0 window 0 base 0x100000000 size 0x20000000 gran 256 ways 2\n";
 
@@ -35,27 +85,16 @@ node e1 0 00000000 00000001 20000000 00000000 00001610 00000000 00000000\n\
 slot 0 e0 0x0\n\
 slot 1 e1 0x0\n";
 
-#[test]
-fn a_session_is_kept(rt: HostRuntime) {
-    let alloc = rt.alloc();
-    let mut out = sink(&rt, alloc);
-    let mut files = files(&rt, alloc, b"");
-    let opened = Held::open_from_reset(alloc, "table", "topology", &mut files, &mut out);
-    let Ok(mut held) = opened else {
-        assert!(rt; false, "it opens");
-        return;
-    };
-    assert!(rt;
-        files.asked().len() == 2,
-        "each of two files is asked for once"
-    );
+const LED_DOWN: &str =
+    "down 0x100000100 region auto0 slot 1 position 1 via hb1:0:0 endpoint e1 dpa 0x0\n";
+
+/// The words of a create, as the session tells them, and none of a load.
+fn tells_its_words(rt: &impl Abort, alloc: Global, held: &mut Held, out: &mut MemSink)
+    requires { IsKept held.old }
+    ensures { IsKept held.new }
+{
     assert!(rt; held.words().len() == 2, "a word lets each endpoint decode");
-    let status = held.act(
-        alloc,
-        &mut lines(&rt, alloc, "create r0 ram 0x20000000 e0 e1\n"),
-        &mut out,
-    );
-    assert!(rt; status.code() == 0, "status");
+    act(rt, alloc, held, CREATE, 0, out);
     assert!(rt; out.bytes() == CREATED.as_bytes(), "the reply");
     assert!(rt; held.words().len() == 32, "eight words a decoder");
     assert!(rt; held.words()[0].off == 0x10, "a base comes first");
@@ -63,60 +102,58 @@ fn a_session_is_kept(rt: HostRuntime) {
         held.words()[1].off == 0x14 && held.words()[1].value == 1,
         "it is 4 GiB"
     );
-    let image = held.image(alloc).expect(&rt, "memory");
-    let status = held.act(
-        alloc,
-        &mut lines(&rt, alloc, "load 0x100000000 1\n"),
-        &mut out,
-    );
-    assert!(rt; status.code() == 0, "status of a load");
+    act(rt, alloc, held, "load 0x100000000 1\n", 0, out);
     assert!(rt; held.words().is_empty(), "a load sends no word");
-    opens_again(&rt, alloc, &image);
+}
+
+/// A session opens on the image that another left: its region is there.
+#[test]
+fn a_session_is_kept(rt: HostRuntime) {
+    let alloc = rt.alloc();
+    let mut out = sink(&rt, alloc);
+    let mut held = opened(&rt, alloc, &mut out);
+    tells_its_words(&rt, alloc, &mut held, &mut out);
+    let image = held.image(alloc).expect(&rt, "memory");
+    drop(held);
+    let mut again = sink(&rt, alloc);
+    let mut held = opened_on(&rt, alloc, &image, &mut again);
+    act(&rt, alloc, &mut held, "down 0x100000100\n", 0, &mut again);
+    assert!(rt; again.bytes() == LED_DOWN.as_bytes(), "the way down");
+    drop(held);
+    drop(again);
+    drop(out);
+}
+
+/// What is told of a session behind lines that were passed.
+fn shows_and_ends(rt: &impl Abort, alloc: Global, held: &mut Held)
+    requires { IsKept held.old }
+    ensures { IsKept held.new }
+{
+    let mut out = sink(rt, alloc);
+    act(rt, alloc, held, "show r0\n", 0, &mut out);
+    assert!(rt; out.bytes() == SHOWN.as_bytes(), "its registers");
+    act(rt, alloc, held, "destroy r0\n", 0, &mut out);
+    assert!(rt; held.words().len() == 4, "a word a decoder");
+    drop(out);
 }
 
 #[test]
 fn lines_are_passed(rt: HostRuntime) {
     let alloc = rt.alloc();
     let mut out = sink(&rt, alloc);
-    let mut files = files(&rt, alloc, b"");
-    let opened = Held::open_from_reset(alloc, "table", "topology", &mut files, &mut out);
-    let Ok(held) = opened else {
-        assert!(rt; false, "it opens");
-        return;
-    };
-    let mut create = lines(&rt, alloc, "create r0 ram 0x20000000 e0 e1\n");
-    let Ok(mut held) = held.pass(alloc, &mut create, &mut out) else {
-        assert!(rt; false, "it comes to its end");
-        return;
-    };
+    let held = opened(&rt, alloc, &mut out);
+    let mut create = lines(&rt, alloc, CREATE);
+    match held.pass(alloc, &mut create, &mut out) {
+        Ok(mut held) => {
+            assert!(rt; held.words().is_empty(), "no word is told");
+            shows_and_ends(&rt, alloc, &mut held);
+            drop(held);
+        }
+        Err(_) => panic!(&rt; "it comes to its end"),
+    }
     assert!(rt; out.bytes() == CREATED.as_bytes(), "the reply");
-    assert!(rt; held.words().is_empty(), "no word is told");
-    let mut shown = sink(&rt, alloc);
-    let status = held.act(alloc, &mut lines(&rt, alloc, "show r0\n"), &mut shown);
-    assert!(rt; status.code() == 0, "status of a show");
-    assert!(rt; shown.bytes() == SHOWN.as_bytes(), "its registers");
-    let status = held.act(alloc, &mut lines(&rt, alloc, "destroy r0\n"), &mut out);
-    assert!(rt; status.code() == 0, "status");
-    assert!(rt; held.words().len() == 4, "a word a decoder");
-}
-
-/// A session opens on the image that another left: its region is there.
-fn opens_again(rt: &impl Abort, alloc: Global, image: &[u8]) {
-    let mut out = sink(rt, alloc);
-    let mut files = files(rt, alloc, image);
-    let opened = Held::open_from_image(alloc, "table", "topology", "image", &mut files, &mut out);
-    let Ok(mut held) = opened else {
-        assert!(rt; false, "it opens on an image");
-        return;
-    };
-    assert!(rt;
-        files.asked().len() == 3,
-        "each of three files is asked for once"
-    );
-    let status = held.act(alloc, &mut lines(rt, alloc, "down 0x100000100\n"), &mut out);
-    assert!(rt; status.code() == 0, "status of a way down");
-    let told = b"down 0x100000100 region auto0 slot 1 position 1 via hb1:0:0 endpoint e1 dpa 0x0\n";
-    assert!(rt; out.bytes() == told.as_slice(), "the way down");
+    drop(create);
+    drop(out);
 }
 
 /// The image with a granularity code of the first endpoint's decoder that is not the window's.
@@ -126,47 +163,55 @@ fn broken(rt: &impl Abort, alloc: Global, image: &[u8]) -> Vec<u8> {
     changed
 }
 
+/// The image behind a create.
+fn image_of_a_region(rt: &impl Abort, alloc: Global) -> Vec<u8> {
+    let mut out = sink(rt, alloc);
+    let mut held = opened(rt, alloc, &mut out);
+    act(rt, alloc, &mut held, CREATE, 0, &mut out);
+    let image = held.image(alloc).expect(rt, "memory");
+    drop(held);
+    drop(out);
+    image
+}
+
+/// The exit status with which no session opens; one that does is let go.
+fn code_of(opened: Result<Held, Status>) -> u8 {
+    match opened {
+        Ok(held) => {
+            drop(held);
+            0
+        }
+        Err(status) => status.code(),
+    }
+}
+
 #[test]
 fn a_breach_is_told(rt: HostRuntime) {
     let alloc = rt.alloc();
+    let image = broken(&rt, alloc, &image_of_a_region(&rt, alloc));
+    let mut files = files(&rt, alloc, &image);
     let mut out = sink(&rt, alloc);
-    let mut reset = files(&rt, alloc, b"");
-    let opened = Held::open_from_reset(alloc, "table", "topology", &mut reset, &mut out);
-    let Ok(mut held) = opened else {
-        assert!(rt; false, "it opens");
-        return;
-    };
-    let mut create = lines(&rt, alloc, "create r0 ram 0x20000000 e0 e1\n");
-    let _ = held.act(alloc, &mut create, &mut out);
-    let image = held.image(alloc).expect(&rt, "memory");
-    let mut files = files(&rt, alloc, &broken(&rt, alloc, &image));
-    let mut out = sink(&rt, alloc);
-    match Held::open_from_image(alloc, "table", "topology", "image", &mut files, &mut out) {
-        Ok(_) => assert!(rt; false, "the image has a breach"),
-        Err(status) => assert!(rt; status.code() == 8, "status"),
-    }
+    let opened = Held::open_from_image(alloc, "table", "topology", "image", &mut files, &mut out);
+    assert!(rt; code_of(opened) == 8, "status");
     assert!(rt;
         out.bytes() == b"breach K12 e0 0\n".as_slice(),
         "the breach"
     );
+    drop(files);
+    drop(out);
 }
 
 #[test]
 fn lines_that_fail_are_not_passed(rt: HostRuntime) {
     let alloc = rt.alloc();
     let mut out = sink(&rt, alloc);
-    let mut files = files(&rt, alloc, b"");
-    let opened = Held::open_from_reset(alloc, "table", "topology", &mut files, &mut out);
-    let Ok(held) = opened else {
-        assert!(rt; false, "it opens");
-        return;
-    };
+    let held = opened(&rt, alloc, &mut out);
     let fails = Vec::from_slice(alloc, &[1]).expect(&rt, "memory");
     let mut unread = MemSource::new(Vec::new(alloc), fails);
-    match held.pass(alloc, &mut unread, &mut out) {
-        Ok(_) => assert!(rt; false, "reading fails"),
-        Err(status) => assert!(rt; status.code() == 5, "status"),
-    }
+    let passed = held.pass(alloc, &mut unread, &mut out);
+    assert!(rt; code_of(passed) == 5, "status");
+    drop(unread);
+    drop(out);
 }
 
 #[test]
@@ -174,8 +219,8 @@ fn a_faulty_table_is_told(rt: HostRuntime) {
     let alloc = rt.alloc();
     let mut out = sink(&rt, alloc);
     let mut files = MemFetch::new(Vec::new(alloc), Vec::new(alloc));
-    match Held::open_from_reset(alloc, "table", "topology", &mut files, &mut out) {
-        Ok(_) => assert!(rt; false, "there is no table"),
-        Err(status) => assert!(rt; status.code() == 2, "status"),
-    }
+    let opened = Held::open_from_reset(alloc, "table", "topology", &mut files, &mut out);
+    assert!(rt; code_of(opened) == 2, "status");
+    drop(files);
+    drop(out);
 }

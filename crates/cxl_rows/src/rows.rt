@@ -1,4 +1,7 @@
 //! A worked row: its files, its words, and what the run comes to.
+//!
+//! Here and in the other tests a large value is let go by a call of `drop`, which is proved once: what a function lets go by itself
+//! is part by part in its own proof.
 
 use cxl_bus::SimBus;
 use cxl_io::{MemFetch, MemSink, MemSource, read_number};
@@ -134,7 +137,7 @@ pub(crate) fn code_of_run(
     let mut script = MemSource::new(Vec::new(alloc), Vec::new(alloc));
     let mut regs = SimBus::new(alloc);
     let mut media = SimMedia::new(alloc);
-    run(
+    let status = run(
         alloc,
         words,
         files,
@@ -142,8 +145,9 @@ pub(crate) fn code_of_run(
         sink,
         &mut regs,
         &mut media,
-    )
-    .code()
+    );
+    drop(media);
+    status.code()
 }
 
 /// Whether the words end with this exit status and write these bytes.
@@ -170,7 +174,9 @@ pub(crate) fn answers(
 ) -> bool {
     let words = words_of(rt, alloc, line);
     let mut files = table_file(rt, alloc, table);
-    ends(rt, alloc, &words, &mut files, code, bytes)
+    let right = ends(rt, alloc, &words, &mut files, code, bytes);
+    drop(files);
+    right
 }
 
 /// A name, a line, the digits of a table and changes of it, the exit status and the text.

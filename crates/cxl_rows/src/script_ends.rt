@@ -59,7 +59,10 @@ fn code_of_script(
     let table = bytes(rt, alloc, TWO_BRIDGES);
     let mut files = files_of(rt, alloc, table, topology, Vec::new(alloc), 0);
     let mut media = SimMedia::new(alloc);
-    run(alloc, &words, &mut files, source, sink, regs, &mut media).code()
+    let status = run(alloc, &words, &mut files, source, sink, regs, &mut media);
+    drop(files);
+    drop(media);
+    status.code()
 }
 
 /// How many bytes a source has left.
@@ -80,7 +83,11 @@ fn ends(rt: &impl Abort, alloc: Global, read: u64, write: u64, code: u8, replies
     let mut sink = sink_of(rt, alloc, ROOM, write);
     let mut regs = FailingBus::new(alloc, Vec::new(alloc));
     let status = code_of_script(rt, alloc, TWO_ENDPOINTS, &mut source, &mut sink, &mut regs);
-    status == code && is_written(rt, alloc, sink.bytes(), code, replies)
+    let written = is_written(rt, alloc, sink.bytes(), code, replies);
+    drop(source);
+    drop(sink);
+    drop(regs);
+    status == code && written
 }
 
 /// Whether these bytes are so many replies, and the error where the script was not read to its end.
@@ -124,7 +131,11 @@ fn left_behind(rt: &impl Abort, alloc: Global, write: u64) -> usize {
     let mut sink = sink_of(rt, alloc, ROOM, write);
     let mut regs = FailingBus::new(alloc, Vec::new(alloc));
     code_of_script(rt, alloc, TWO_ENDPOINTS, &mut source, &mut sink, &mut regs);
-    left_in(rt, &mut source)
+    let left = left_in(rt, &mut source);
+    drop(source);
+    drop(sink);
+    drop(regs);
+    left
 }
 
 /// No block is read before the lines of the one before it are carried out: the 456th line is the first that needs the second.
@@ -146,7 +157,12 @@ fn is_undone(rt: &impl Abort, alloc: Global, call: u64) -> bool {
     let code = code_of_script(rt, alloc, TWO_ENDPOINTS, &mut source, &mut sink, &mut regs);
     let text = repeated(rt, alloc, &[b"bus fault undone\n", CREATED], 1);
     let made = (call as usize).saturating_sub(3);
-    code == 0 && sink.bytes() == text.as_slice() && goes_back_and_on(regs.trail(), made)
+    let told = sink.bytes() == text.as_slice();
+    let goes_on = goes_back_and_on(regs.trail(), made);
+    drop(source);
+    drop(sink);
+    drop(regs);
+    code == 0 && told && goes_on
 }
 
 /// Whether so many words of a create go before those that take them back, and all of it after them.
@@ -198,4 +214,7 @@ fn one_frame_serves_a_thousand_regions(rt: HostRuntime) {
     let code = code_of_script(&rt, alloc, ONE_FRAME, &mut source, &mut sink, &mut regs);
     assert!(&rt; code == 0);
     assert!(&rt; sink.bytes() == repeated(&rt, alloc, &told, 1_000).as_slice());
+    drop(source);
+    drop(sink);
+    drop(regs);
 }

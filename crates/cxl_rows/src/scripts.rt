@@ -71,7 +71,12 @@ fn comes_to<M: Roll>(rt: &impl Abort, alloc: Global, script: &Script, media: &mu
         &mut regs,
         media,
     );
-    status.code() == script.code && sink.bytes() == script.text.as_bytes()
+    let told = sink.bytes() == script.text.as_bytes();
+    drop(files);
+    drop(source);
+    drop(sink);
+    drop(regs);
+    status.code() == script.code && told
 }
 
 /// Checks each script, as a run and command by command.

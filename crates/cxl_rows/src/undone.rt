@@ -51,9 +51,11 @@ create b ram 0x10000000 e1\n\
 begin destroy a\n\
 abort";
     replies(rt, alloc, &mut session, lines, regs, media);
-    are_live(&session, 0x1_0000_0000, 0x2_0000_0000)
+    let stand = are_live(&session, 0x1_0000_0000, 0x2_0000_0000)
         && is_answered(rt, alloc, &mut session, AFRESH, ANSWERED, regs, media)
-        && are_live(&session, 0x2_0000_0000, 0x1_0000_0000)
+        && are_live(&session, 0x2_0000_0000, 0x1_0000_0000);
+    drop(session);
+    stand
 }
 
 const AFRESH: &str = "\
@@ -157,7 +159,9 @@ fn words_behind<M: Roll>(
     let mut regs = SimBus::new(alloc);
     let mut session = before(rt, alloc, writing, &mut regs, media);
     replies(rt, alloc, &mut session, &steps, &mut regs, media);
-    words_of(rt, alloc, &session)
+    let words = words_of(rt, alloc, &session);
+    drop(session);
+    words
 }
 
 /// Whether a command that fails at this write is undone, and leaves each word of the image as it was; it is then carried out.
@@ -170,7 +174,10 @@ fn is_undone<M: Roll>(
 ) -> bool {
     let mut regs = failing_from(rt, alloc, writing, write, 1);
     let mut session = before(rt, alloc, writing, &mut regs, media);
-    is_undone_in(rt, alloc, &mut session, writing, &mut regs, media)
+    let undone = is_undone_in(rt, alloc, &mut session, writing, &mut regs, media);
+    drop(session);
+    drop(regs);
+    undone
 }
 
 /// The same in a session whose bus fails at the write.
@@ -230,7 +237,10 @@ fn is_left_pending<M: Roll>(
     let left = left_of(rt, alloc, writing, made, media);
     let mut regs = failing_from(rt, alloc, writing, made, 2);
     let mut session = before(rt, alloc, writing, &mut regs, media);
-    is_left_pending_in(rt, alloc, &mut session, &left, &mut regs, media)
+    let pending = is_left_pending_in(rt, alloc, &mut session, &left, &mut regs, media);
+    drop(session);
+    drop(regs);
+    pending
 }
 
 /// The same in a session whose bus fails so.
