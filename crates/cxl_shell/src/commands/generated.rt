@@ -96,7 +96,12 @@ fn over_host<K: Sink, R: Regs, M: Roll>(
     } = host;
     accepted_or_breach();
     match Session::open(alloc, topo, windows, image, regs, media) {
-        Ok(mut session) => over_session(alloc, n, &mut session, out, regs, media),
+        Ok(mut session) => {
+            let status = over_session(alloc, n, &mut session, out, regs, media);
+            // a call lets go part by part, which is proved once for all that do
+            drop(session);
+            status
+        }
         Err(fault) => finish(unopened(fault), out),
     }
 }

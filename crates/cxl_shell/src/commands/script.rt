@@ -77,7 +77,12 @@ pub(crate) fn script_over_regions<S: Source, K: Sink, R: Regs, M: Roll>(
         windows,
     } = host;
     match Session::open_accepted(alloc, topo, windows, image, regions, regs, media) {
-        Ok(mut session) => over_session(alloc, &mut session, source, out, regs, media),
+        Ok(mut session) => {
+            let status = over_session(alloc, &mut session, source, out, regs, media);
+            // a call lets go part by part, which is proved once for all that do
+            drop(session);
+            status
+        }
         Err(fault) => finish(unopened(fault), out),
     }
 }

@@ -13,11 +13,11 @@ returns-in-Ok-clause-ends g c =
     let host = c.args.host in
     let s = system_of host.image host.topo host.windows.items in
     let before = devices (g.S.Source.state c.args.source.now) (g.R.Regs.state c.args.regs.now) (g.M.Media.state c.args.media.now) in
-    let after = devices (g.S.Source.state c.over_session.new.source) (g.R.Regs.state c.over_session.new.regs) (g.M.Media.state c.over_session.new.media) in
+    let after = devices (g.S.Source.state c.over_session-status.new.source) (g.R.Regs.state c.over_session-status.new.regs) (g.M.Media.state c.over_session-status.new.media) in
     let opens = c.in-Ok.ensures.opened in
-    let gone = c.over_session.ensures.ends opens.0 opens.2 in
+    let gone = c.over_session-status.ensures.ends opens.0 opens.2 in
     opened opens.0 gone.0 gone.1 opens.1 opens.2.sound.machine gone.2.answered
-    (carried-out s host.topo.frames opens.0 gone.0 gone.1 c.over_session.new.session host.topo.nodes (g.R.Regs.state c.open_accepted.new.regs) before after opens.1 refl c.in-Ok.ensures.enabled c.in-Ok.ensures.unfailed gone.2)
+    (carried-out s host.topo.frames opens.0 gone.0 gone.1 c.over_session-status.new.session host.topo.nodes (g.R.Regs.state c.open_accepted.new.regs) before after opens.1 refl c.in-Ok.ensures.enabled c.in-Ok.ensures.unfailed gone.2)
     gone.3
 
 pub returns-in-Err-clause-ends : goal.returns-in-Err-clause-ends
