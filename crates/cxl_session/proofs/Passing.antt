@@ -1,5 +1,5 @@
 -- A value that is handed on where a call passed.
-use Rattle.std.proofs.Common.{◌≡◌, true, false, Result, Ok, Err, OnOk, OnErr, refl, sym, subst, ◌∙◌, ap}
+use Rattle.std.proofs.Common.{◌≡◌, true, false, Result, Ok, Err, OnOk, OnErr, refl, sym, subst, ap}
 use Rattle.std.specs.Prelude.{IfOk}
 use Rattle.std.specs.Result.{is_ok, is_err, result_and}
 

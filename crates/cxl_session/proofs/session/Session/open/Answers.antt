@@ -1,24 +1,17 @@
-use Rattle.std.proofs.Common.{◌≡◌, ℕ, List, [], Err, refl, sym, ap, subst, ◌∙◌, inl, inr}
+use Rattle.std.proofs.Common.{◌≡◌, List, Err, refl, sym, ap, subst, ◌∙◌, inl, inr}
 use Rattle.std.proofs.lemmas.Result.{err_from_is_err_and}
-use Rattle.std.proofs.Math.Nat.{le_refl, le_trans}
-use Rattle.cxl_enc.proofs.Options.{on_ok_at, on_err_at}
-use Rattle.cxl_media.specs.MediaState.{MediaState}
+use Rattle.std.proofs.Math.Nat.{le_refl}
 use Rattle.cxl_window.specs.Fields.{WindowFields}
 use Rattle.cxl_window.specs.Windows.{AreMadeWith}
-use Rattle.cxl_regs.specs.Registers.{Registers}
-use Rattle.cxl_bus.proofs.Failed.{fails_then}
-use Rattle.cxl_bus.specs.Failed.{fresh}
-use Rattle.cxl_bus.specs.Trail.{blocks_sent, trail_with}
 use Rattle.cxl_machine.specs.declared.fault.OpenFault.{OpenFault}
 use Rattle.cxl_machine.specs.declared.fault.OpenFault.TheVariants as faults
-use Rattle.cxl_machine.specs.Sound.{enabled_blocks}
 use Rattle.cxl_model.specs.Accepted.{IsFirstBreach, HasFirstBreach}
 use Rattle.cxl_model.specs.System.{System, system_of, bridge_uids}
-use Rattle.cxl_opening.specs.Opening.{endpoints_in, enabling, HasRegions}
-use Rattle.cxl_opening.specs.Opened.{opened_machine, CanOpen, StopsEnabling}
+use Rattle.cxl_opening.specs.Opening.{HasRegions}
+use Rattle.cxl_opening.specs.Opened.{CanOpen}
 use Rattle.cxl_session.proofs.Acts.{err_always}
 use Rattle.cxl_opening.proofs.Errors.{not_ok}
-use Rattle.cxl_session.proofs.Opened.{opens_so, image_is, half_is, places_are, opened_is_at, same_fault, trail_from_none, memory_not_breach, memory_not_full, memory_not_bus, bus_not_breach, bus_not_full, bus_not_memory, ok_not_err, rose_after, uncrowded, none_refused, nothing_refused}
+use Rattle.cxl_session.proofs.Opened.{same_fault, uncrowded, none_refused, nothing_refused}
 use Rattle.cxl_session.proofs.session.Session.open.Goals as goal
 
 pub returns-in_err-founds-clause-breach : goal.returns-in_err-founds-clause-breach
