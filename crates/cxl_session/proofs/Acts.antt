@@ -1,5 +1,5 @@
 -- The turn of one command, by what the part of the session that carries it out says.
-use Rattle.std.proofs.Common.{◌≡◌, [], Result, Ok, Err, sym, ap, ◌∙◌, subst}
+use Rattle.std.proofs.Common.{◌≡◌, ℕ, [], Result, Ok, Err, refl, sym, ap, ◌∙◌, subst}
 use Rattle.std.specs.Prelude.{true, false, IsOk, IfOk, IfErr, OnOk, OnErr}
 use Rattle.cxl_enc.specs.declared.faults.Memory.{Memory}
 use Rattle.cxl_bus.proofs.Failed.{fails_nowhere}
@@ -7,6 +7,10 @@ use Rattle.cxl_bus.specs.RegsState.{RegsState, IsUntouched}
 use Rattle.cxl_bus.proofs.Trails.{trail_nothing}
 use Rattle.cxl_media.specs.MediaState.{MediaState}
 use Rattle.cxl_script.specs.declared.command.Command.{Command}
+use Rattle.cxl_script.specs.declared.command.Command.TheVariants as commands
+use Rattle.cxl_script.specs.declared.command.Load.{Load}
+use Rattle.cxl_script.specs.declared.command.Store.{Store}
+use Rattle.cxl_script.specs.declared.command.Up.{Up}
 use Rattle.cxl_reply.specs.declared.reply.Reply.{Reply}
 use Rattle.cxl_machine.specs.Machine.{Machine}
 use Rattle.cxl_machine.specs.Answers.{Answers}
@@ -18,7 +22,7 @@ use Rattle.cxl_machine.specs.Trails.{TrailOf}
 use Rattle.cxl_machine.proofs.Fails.{no_call_fails}
 use Rattle.cxl_session.specs.State.{SessionState}
 use Rattle.cxl_session.specs.Standing.{StandsFor, IsAt, HoldsMemory, Stands}
-use Rattle.cxl_session.specs.inner.Answering.{StandsSomehow, HoldsMachine, HoldsSome, IsWrittenFor, IsTurnFor}
+use Rattle.cxl_session.specs.inner.Answering.{is_access, StandsSomehow, HoldsMachine, HoldsSome, IsWrittenFor, IsTurnFor}
 use Rattle.cxl_session.proofs.Turns.{still}
 
 -- ---- where they stand for a machine
@@ -126,3 +130,11 @@ module _ {T E : Type 0} where
   pub err_always : (result : Result T E) (P : E → Type 0) → ((e : E) → P e) → IfErr result P
   err_always (Ok x) P all = tt
   err_always (Err e) P all = all e
+
+-- a command that is none of the four accesses
+pub no_access : (command : Command) → ((load : Load) → command ≡ commands.Load load → ⊥) → ((store : Store) → command ≡ commands.Store store → ⊥) → ((h : ℕ) → command ≡ commands.Down h → ⊥) → ((up : Up) → command ≡ commands.Up up → ⊥) → is_access command ≡ false
+no_access (commands.Load load) not_load not_store not_down not_up = absurd (not_load load refl)
+no_access (commands.Store store) not_load not_store not_down not_up = absurd (not_store store refl)
+no_access (commands.Down h) not_load not_store not_down not_up = absurd (not_down h refl)
+no_access (commands.Up up) not_load not_store not_down not_up = absurd (not_up up refl)
+no_access command not_load not_store not_down not_up = refl

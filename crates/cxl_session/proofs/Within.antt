@@ -62,7 +62,7 @@ module _ (session : SessionState) (m : Machine) (h len : ℕ) where
     pub within_is : ends_within holds.0.found h len ≡ true → IsWithin session m h len (Ok place)
     within_is fits = (holds.0, holds.2, fits, answered true fits, holds.1)
 
-    pub crosses_is : ends_within holds.0.found h len ≡ false → IsWithin session m h len (Err replies.CrossesEnd)
+    crosses_is : ends_within holds.0.found h len ≡ false → IsWithin session m h len (Err replies.CrossesEnd)
     crosses_is past = answered false past
 
     -- ---- by the region that is kept
@@ -74,3 +74,6 @@ module _ (session : SessionState) (m : Machine) (h len : ℕ) where
 
       pub within_by : ends_within found h len ≡ true → IsWithin session m h len (Ok place)
       within_by fits = within_is (subst (λ (f : Found). ends_within f h len ≡ true) (found_is session m place holds.0 holds.2 found there) fits)
+
+      pub crosses_by : ends_within found h len ≡ false → IsWithin session m h len (Err replies.CrossesEnd)
+      crosses_by past = crosses_is (subst (λ (f : Found). ends_within f h len ≡ false) (found_is session m place holds.0 holds.2 found there) past)

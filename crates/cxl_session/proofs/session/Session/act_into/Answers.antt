@@ -7,7 +7,7 @@ use Rattle.cxl_script.specs.declared.command.Command.TheVariants as commands
 use Rattle.cxl_reply.specs.declared.reply.Reply.{Reply}
 use Rattle.cxl_machine.specs.Accesses.{store_answer}
 use Rattle.cxl_session.specs.inner.Answering.{IsWrittenFor}
-use Rattle.cxl_session.proofs.Acts.{of_command, read_turn, write_turn, image_held, some_machine, somehow, holds_some, untouched_by, owes_none, refusal_told, on_ok_always, err_always}
+use Rattle.cxl_session.proofs.Acts.{of_command, read_turn, write_turn, image_held, some_machine, somehow, holds_some, untouched_by, owes_none, refusal_told, no_access, on_ok_always, err_always}
 use Rattle.cxl_session.proofs.session.Session.act_into.Goals as goal
 
 pub load-requires : goal.load-requires
@@ -100,4 +100,21 @@ returns-in-Up g c =
       image = image_held session old media c.requires.stands;
       host = (refl, refl);
       counts = le_refl old.faults;
+    }
+
+pub act_on_regions_into-requires : goal.act_on_regions_into-requires
+act_on_regions_into-requires g c = record { stands = c.requires.stands; ranged = c.requires.ranged; other = no_access c.args.command.now c.in_default.not-Load c.in_default.not-Store c.in_default.not-Down c.in_default.not-Up }
+
+pub returns-in_default : goal.returns-in_default
+returns-in_default g c =
+    let made = c.act_on_regions_into.ensures in
+    record {
+      answer = made.answer;
+      refused = made.refused;
+      memory = made.memory;
+      unfailed = made.unfailed;
+      ready = made.ready;
+      image = made.image;
+      host = made.host;
+      counts = made.counts;
     }

@@ -1,4 +1,5 @@
 use Rattle.std.proofs.Common.{Result, Ok, Err, Option, refl, sym, ◌∙◌, subst}
+use Rattle.cxl_apply.specs.Steps.{HasWordsOf}
 use Rattle.cxl_model.specs.declared.plan.Plan.{Plan}
 use Rattle.cxl_model.specs.Plans.{IsLegalPlan}
 use Rattle.cxl_model.specs.System.{System}
@@ -47,3 +48,7 @@ returns-clause-asked c = λ m stands is.
     subst (λ (a : Result Plan Reply). IsAskedPlan m c.args.create.now a) c.in-Ok.is (c.in_ok-plan.ensures m (sym (unrefused c.args.self.now m stands c.args.create.now none))) in
     create_here c.args.self.now m stands c.args.create.now none c.in-Ok.plan sought (c.creates_are_legal.ensures m (commands.Create c.args.create.now) is) (job_fields c.in_ok-pending.pending)
     (subst (λ (s : System). IsPrepared s c.in-Ok.plan (job_fields c.in_ok-pending.pending)) c.host.ensures c.in_ok-pending.ensures.pending)
+
+pub returns-clause-words : goal.returns-clause-words
+returns-clause-words c =
+    subst (λ (s : System). HasWordsOf s.blocks c.in_ok-pending.pending.job.writes) c.host.ensures c.in_ok-pending.ensures.words

@@ -1,5 +1,7 @@
 use Rattle.std.proofs.Common.{Result, refl, sym, ap, subst}
 use Rattle.std.proofs.lemmas.Bool.{false≢true}
+use Rattle.std.specs.Prelude.{IfOk}
+use Rattle.cxl_apply.specs.Steps.{HasWordsOf}
 use Rattle.cxl_reply.specs.declared.reply.Reply.{Reply}
 use Rattle.cxl_reply.specs.declared.reply.Reply.TheVariants as replies
 use Rattle.cxl_script.specs.declared.command.Command.TheVariants as commands
@@ -54,3 +56,7 @@ returns-clause-memory c = tt
 
 pub returns-clause-host : goal.returns-clause-host
 returns-clause-host c = (ap (λ (s : SessionState). s.topo) c.keep.ensures, ap (λ (s : SessionState). s.windows) c.keep.ensures)
+
+pub keep-requires : goal.keep-requires
+keep-requires c =
+    subst (λ (a : Result PendingJob Reply). IfOk a (λ pending. HasWordsOf c.args.self.now.image pending.job.writes)) c.in-Ok.is c.in_ok-pending.ensures.words

@@ -1,5 +1,7 @@
 use Rattle.std.proofs.Common.{Result, Ok, refl, sym, ap, subst, ◌∙◌}
 use Rattle.std.proofs.Math.Nat.{le_refl}
+use Rattle.std.specs.Prelude.{IfOk}
+use Rattle.cxl_apply.specs.Steps.{HasWordsOf}
 use Rattle.cxl_reply.specs.declared.reply.Reply.{Reply}
 use Rattle.cxl_machine.specs.Machine.{Machine}
 use Rattle.cxl_machine.specs.Jobs.{create_job, begun}
@@ -90,3 +92,7 @@ returns-clause-host g c = (
 
 pub returns-clause-counts : goal.returns-clause-counts
 returns-clause-counts g c = c.carry_out.ensures.counts
+
+pub keep-requires : goal.keep-requires
+keep-requires g c =
+    subst (λ (a : Result PendingJob Reply). IfOk a (λ pending. HasWordsOf c.args.self.now.image pending.job.writes)) c.in-Ok.is c.in_ok-pending.ensures.words
