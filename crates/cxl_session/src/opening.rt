@@ -186,6 +186,9 @@ impl Session {
         ensures unfailed { OnOk result (HasFailed (fresh (R.state regs.old)) (R.state regs.new) []) }
     {
         let Ok(endpoints) = powered_on(alloc, &topo, &start, regs, media) else {
+            // calls let go part by part, which is proved once for all that do
+            drop(topo);
+            drop(start);
             return Err(OpenFault::Memory);
         };
         let Ok(session) = Session::over(alloc, topo, windows, start, founds, &endpoints) else {
@@ -220,7 +223,11 @@ impl Session {
         regions_lie_in_windows();
         let _frames = topo.frames();
         let image = enabled(start, endpoints);
-        let live = opened_regions(alloc, &image, &topo, &windows, founds)?;
+        let Ok(live) = opened_regions(alloc, &image, &topo, &windows, founds) else {
+            drop(topo);
+            drop(image);
+            return Err(Memory);
+        };
         Ok(Session {
             topo,
             windows,

@@ -286,7 +286,10 @@ impl Session {
             }
             Kind::Releases(_) => {
                 scrub_region(media, &pending.found);
-                Reply::Destroyed(pending.name)
+                let name = pending.name;
+                // a call lets go part by part, which is proved once for all that do
+                drop(pending);
+                Reply::Destroyed(name)
             }
         }
     }
@@ -333,6 +336,8 @@ impl Session {
     {
         if let Kind::Releases(place) = pending.kind {
             self.insert(place as usize, pending.name, pending.found, pending.kept);
+        } else {
+            drop(pending);
         }
     }
 

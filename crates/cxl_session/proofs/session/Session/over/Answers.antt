@@ -38,8 +38,8 @@ opened_regions-requires c =
 
 pub invariant_of-result : goal.invariant_of-result
 invariant_of-result c =
-    let live = c.in_ok-live.ensures in
-    let count : length c.in_ok-live.live.names.items ≡ length c.args.founds.items = ap length live.names ∙ length-map-range_with_len auto_name 0 (length c.args.founds.items) in
+    let live = c.in-Ok.ensures in
+    let count : length c.in-Ok.live.names.items ≡ length c.args.founds.items = ap length live.names ∙ length-map-range_with_len auto_name 0 (length c.args.founds.items) in
     record {
       founds = ap length live.founds ∙ sym count;
       kepts = routes_long _ _ _ live.routes ∙ sym count;
@@ -57,13 +57,13 @@ returns-clause-machine c =
 pub returns-clause-stands : goal.returns-clause-stands
 returns-clause-stands c =
     let s : System = system_of c.args.start c.args.topo c.args.windows.items in
-    let live = c.in_ok-live.ensures in
+    let live = c.in-Ok.ensures in
     let machine = machine_is c.openings_are_machines.ensures s c.args.topo.frames c.args.founds.items c.requires.opens c.ports_are_bytes.ensures
     (subst AreFrames c.frames-frames.ensures.frames c.frames-frames.ensures.range) in
     let image = image_is c.args.topo c.args.windows.items c.args.start c.enabled-image.result c.args.endpoints.now c.args.founds.items c.requires.opens c.requires.endpoints c.enabled-image.ensures in
-    opened_stands c.regions_lie_in_windows.ensures.there c.args.topo c.args.windows.items c.args.start c.enabled-image.result c.args.founds.items c.in_ok-live.live.founds
-    c.in_ok-live.live.names.items c.in_ok-live.live.kepts.items machine image live.names live.founds
-    (subst (λ (ws : List WindowFields). AreRoutesOf (system_of c.enabled-image.result c.args.topo ws) c.args.founds.items c.in_ok-live.live.kepts.items) c.deref.ensures.value live.routes)
+    opened_stands c.regions_lie_in_windows.ensures.there c.args.topo c.args.windows.items c.args.start c.enabled-image.result c.args.founds.items c.in-Ok.live.founds
+    c.in-Ok.live.names.items c.in-Ok.live.kepts.items machine image live.names live.founds
+    (subst (λ (ws : List WindowFields). AreRoutesOf (system_of c.enabled-image.result c.args.topo ws) c.args.founds.items c.in-Ok.live.kepts.items) c.deref.ensures.value live.routes)
 
 pub returns-clause-handed : goal.returns-clause-handed
 returns-clause-handed c = (refl, refl)
