@@ -255,6 +255,13 @@ module _ {T : Type 0} where
 pub ok_not_err : {T E : Type 0} (x : T) (e : E) → Ok x ≡ Err e → ⊥
 ok_not_err x e is = cc
 
+-- too many regions are no breach, and no fault of the bus
+pub full_not_breach : {T : Type 0} (fault : OpenFault) (n : ℕ) (b : Breach) (r : Result T OpenFault) → fault ≡ faults.Full n → r ≡ Err fault → r ≡ Err (faults.Breach b) → ⊥
+full_not_breach fault n b r only one two = cc
+
+pub full_not_bus : {T : Type 0} (fault : OpenFault) (n : ℕ) (r : Result T OpenFault) → fault ≡ faults.Full n → r ≡ Err fault → r ≡ Err faults.Bus → ⊥
+full_not_bus fault n r only one two = cc
+
 -- what rose after a count that did not fall rose from there
 pub rose_after : (old mid new : ℕ) → old ≤ mid → Rose mid new → Rose old new
 rose_after old mid new up rose = omega arith

@@ -148,8 +148,16 @@ impl Session {
         // Nor did a call of the bus fail since it was powered on.
         ensures unfailed { OnOk result (HasFailed (fresh (R.state regs.old)) (R.state regs.new) []) }
     {
-        let founds = few_to_open(regions)?;
-        Session::over_regions(alloc, topo, windows, start, founds, regs, media)
+        match few_to_open(regions) {
+            Ok(founds) => {
+                Session::over_regions(alloc, topo, windows, start, founds, regs, media)
+            }
+            Err(fault) => {
+                drop(topo);
+                drop(start);
+                Err(fault)
+            }
+        }
     }
 
     /// The same over regions that are no more than may live.
