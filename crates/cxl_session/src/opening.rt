@@ -91,8 +91,17 @@ impl Session {
         // Nor did a call of the bus fail since it was powered on.
         ensures unfailed { OnOk result (HasFailed (fresh (R.state regs.old)) (R.state regs.new) []) }
     {
-        let founds = regions_to_open(alloc, &topo, &windows, &start)?;
-        Session::over_regions(alloc, topo, windows, start, founds, regs, media)
+        match regions_to_open(alloc, &topo, &windows, &start) {
+            Ok(founds) => {
+                Session::over_regions(alloc, topo, windows, start, founds, regs, media)
+            }
+            Err(fault) => {
+                // calls let go part by part, which is proved once for all that do
+                drop(topo);
+                drop(start);
+                Err(fault)
+            }
+        }
     }
 
     /// Starts a session from an accepted register image and the regions that it has, as `open` does, but does not judge the
@@ -194,7 +203,6 @@ impl Session {
         ensures unfailed { OnOk result (HasFailed (fresh (R.state regs.old)) (R.state regs.new) []) }
     {
         let Ok(endpoints) = powered_on(alloc, &topo, &start, regs, media) else {
-            // calls let go part by part, which is proved once for all that do
             drop(topo);
             drop(start);
             return Err(OpenFault::Memory);
