@@ -67,7 +67,10 @@ fn made_host(alloc: Global, n: u32) -> Result<OwnedHost, Memory>
     reset_hosts_are_accepted();
     let cedt = made_table(alloc, n)?;
     let topo = made_tree(alloc, n)?;
-    let image = Image::new(alloc, &topo)?;
+    let Ok(image) = Image::new(alloc, &topo) else {
+        drop(topo);
+        return Err(Memory);
+    };
     let host = OwnedHost::of(alloc, &cedt, topo, image)?;
     Ok(host)
 }
