@@ -1,3 +1,4 @@
+pub mod Lengths
 pub mod Fielding
 pub mod Steps
 pub mod Turns

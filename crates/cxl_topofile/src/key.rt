@@ -1,8 +1,9 @@
 //! The keys of a topology file.
 
-ghost use Rattle.std.specs.Prelude.{◌≡◌, ◌≢◌, ◌<◌, length};
+ghost use Rattle.std.specs.Prelude.{◌≡◌, ◌<◌};
+ghost use Rattle.std.specs.Str.{bytes_eq};
 ghost use Rattle.cxl_topofile.specs.Keys.{key_text, shown_key};
-ghost use Rattle.cxl_topofile.specs.inner.Fields.{key_of, slot_of, slot_at};
+ghost use Rattle.cxl_topofile.specs.inner.Fields.{first_key, key_of, slot_of, slot_at};
 
 /// How many slots there are: one for each key, and the last one for every other text.
 pub(crate) const SLOTS: usize = 19;
@@ -111,83 +112,38 @@ pub(crate) fn slot_at(text: &[u8]) -> usize
 fn key_of(text: &[u8]) -> Option<Key>
     ensures { result ≡ key_of text.now }
 {
-    // By the length first, since what is known of a text grows with each key that it was compared with.
+    // A text is compared with the keys of its length alone.
     match text.len() {
-        3 => key_of_three(text),
-        4 => key_of_four(text),
-        6 => key_of_six(text),
-        8 => key_of_eight(text),
-        _ => key_of_other(text),
+        3 => first_key(text, &[Key::Uid, Key::Low, Key::Ram]),
+        4 => first_key(text, &[Key::Name, Key::Port, Key::High, Key::Pmem]),
+        6 => first_key(
+            text,
+            &[
+                Key::Frames,
+                Key::Bridge,
+                Key::Switch,
+                Key::Parent,
+                Key::Ways16,
+            ],
+        ),
+        8 => first_key(text, &[Key::Endpoint, Key::Decoders]),
+        _ => first_key(
+            text,
+            &[Key::Targets, Key::Passthrough, Key::Ways3, Key::Unknown],
+        ),
     }
 }
 
-/// The key that three letters write.
-fn key_of_three(text: &[u8]) -> Option<Key>
-    requires { length text.now ≡ 3 }
-    ensures { result ≡ key_of text.now }
+/// The first of these keys that a file writes so.
+fn first_key(text: &[u8], keys: &[Key]) -> Option<Key>
+    ensures { result ≡ first_key text.now keys.now }
 {
-    match text {
-        b"uid" => Some(Key::Uid),
-        b"low" => Some(Key::Low),
-        b"ram" => Some(Key::Ram),
-        _ => None,
-    }
+    keys.iter().copied().find(|key| is_written(*key, text))
 }
 
-/// The key that four letters write.
-fn key_of_four(text: &[u8]) -> Option<Key>
-    requires { length text.now ≡ 4 }
-    ensures { result ≡ key_of text.now }
+/// Whether a file writes the key so.
+fn is_written(key: Key, text: &[u8]) -> bool
+    ensures { result ≡ bytes_eq text.now (key_text key) }
 {
-    match text {
-        b"name" => Some(Key::Name),
-        b"port" => Some(Key::Port),
-        b"high" => Some(Key::High),
-        b"pmem" => Some(Key::Pmem),
-        _ => None,
-    }
-}
-
-/// The key that six letters write.
-fn key_of_six(text: &[u8]) -> Option<Key>
-    requires { length text.now ≡ 6 }
-    ensures { result ≡ key_of text.now }
-{
-    match text {
-        b"frames" => Some(Key::Frames),
-        b"bridge" => Some(Key::Bridge),
-        b"switch" => Some(Key::Switch),
-        b"parent" => Some(Key::Parent),
-        b"ways16" => Some(Key::Ways16),
-        _ => None,
-    }
-}
-
-/// The key that eight letters write.
-fn key_of_eight(text: &[u8]) -> Option<Key>
-    requires { length text.now ≡ 8 }
-    ensures { result ≡ key_of text.now }
-{
-    match text {
-        b"endpoint" => Some(Key::Endpoint),
-        b"decoders" => Some(Key::Decoders),
-        _ => None,
-    }
-}
-
-/// The key that a text of another length writes.
-fn key_of_other(text: &[u8]) -> Option<Key>
-    requires three { length text.now ≢ 3 }
-    requires four { length text.now ≢ 4 }
-    requires six { length text.now ≢ 6 }
-    requires eight { length text.now ≢ 8 }
-    ensures { result ≡ key_of text.now }
-{
-    match text {
-        b"targets" => Some(Key::Targets),
-        b"passthrough" => Some(Key::Passthrough),
-        b"ways3" => Some(Key::Ways3),
-        b"" => Some(Key::Unknown),
-        _ => None,
-    }
+    text == key.text().as_bytes()
 }

@@ -1,5 +1,5 @@
 -- The values of a table by key, as one walk over it finds them.
-use Rattle.std.specs.Prelude.{◌≡◌, ℕ, List, [], ◌∷◌, Option, Some, None, Ok, option_map, get_or, if◌then◌else◌}
+use Rattle.std.specs.Prelude.{◌≡◌, ℕ, List, [], ◌∷◌, Option, Some, None, Ok, option_map, get_or, find}
 use Rattle.std.specs.Borrow.{Bor}
 use Rattle.std.specs.Str.{bytes_eq}
 use Rattle.toml.specs.Data.{Data, Members, get_member}
@@ -19,8 +19,7 @@ all_keys =
 
 -- the first of these keys that a file writes so
 abbrev pub first_key : List ℕ → List Key → Option Key
-first_key text [] = None
-first_key text (key ∷ rest) = if bytes_eq text (key_text key) then Some key else first_key text rest
+first_key text keys = find (λ key. bytes_eq text (key_text key)) keys
 
 -- the key that a file writes so
 abbrev pub key_of : List ℕ → Option Key
