@@ -2,6 +2,7 @@ use Rattle.std.proofs.Common.{◌≡◌, ◌≤◌, length, get_or, Some, refl, 
 use Rattle.std.specs.Prelude.{slice_get}
 use Rattle.std.specs.Option.{IsSome}
 use Rattle.std.proofs.lemmas.Bool.{and_parts}
+use Rattle.cxl_deal.specs.Weaves.{IsWeave}
 use Rattle.cxl_topo.specs.Tree.{is_endpoint_at}
 use Rattle.cxl_window.specs.Fields.{WindowFields}
 use Rattle.cxl_model.specs.declared.found.Place.{Place}
@@ -38,6 +39,15 @@ put_steps-requires-clause-own c = (c.requires.region.0, c.args.found.now, c.requ
 
 pub own_at-requires : goal.own_at-requires
 own_at-requires c = (c.requires.region.0, c.args.found.now, c.requires.region.1.are)
+
+pub target_position-requires : goal.target_position-requires
+target_position-requires c =
+    let s : System = c.requires.region.0 in
+    let is : IsOwnIn s c.args.topo.now.nodes c.args.window.now c.args.found.now c.args.own.now = c.requires.region.1 in
+    let found = c.args.found.now in
+    let w : WindowFields = c.args.window.now in
+    let weave : IsWeave (weave_fields found w) = c.weaves_fill_their_regions.ensures.kept s w found is.system is.region in
+    omega (arith, weave.few_ways, c.weaves_fill_their_regions.ensures.ways s w found is.system is.region, c.requires.slot)
 
 pub unwrap-last-requires : goal.unwrap-last-requires
 unwrap-last-requires c =
