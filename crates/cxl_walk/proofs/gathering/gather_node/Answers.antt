@@ -26,3 +26,6 @@ returns c =
     node_done blocks c.args.founds.now c.args.node c.loop-index.index c.loop-index.owns.items
     (λ r own are. all_met blocks r c.args.node block c.loop-index.index own c.block-block.ensures.value all are)
     c.loop-index.invariant
+
+pub gather_decoder-requires-clause-rising : goal.gather_decoder-requires-clause-rising
+gather_decoder-requires-clause-rising c = c.requires.rising

@@ -24,3 +24,6 @@ returns c =
     zipped _ c.args.founds.now c.loop-node.owns.items c.loop-node.invariant.long
     (λ k found own at own_at. fresh (blocks_alone blocks) (region_range found) n own.items (c.loop-node.invariant.each k found own at own_at)
     ∙ ap (own_below (blocks_alone blocks) (region_range found)) all)
+
+pub gather_node-requires-clause-rising : goal.gather_node-requires-clause-rising
+gather_node-requires-clause-rising c = c.requires.rising

@@ -1,4 +1,4 @@
-use Rattle.std.proofs.Common.{◌≡◌, ◌≤◌, length, get_or, Some, refl, sym, ap, subst, ◌∙◌, arith}
+use Rattle.std.proofs.Common.{◌≡◌, ◌≤◌, ◌/◌, length, get_or, Some, refl, sym, ap, subst, ◌∙◌, arith}
 use Rattle.std.specs.Prelude.{slice_get}
 use Rattle.std.specs.Option.{IsSome}
 use Rattle.std.proofs.lemmas.Bool.{and_parts}
@@ -89,3 +89,6 @@ returns c = λ s is.
     (c.put_steps.ensures.steps s w found is.tree is.are c.root_ways-root.ensures.value)
     c.put_steps.ensures.zeros
     refl (own_index s (region_range found) place.endpoint c.unwrap-last.result (own ∙ c.unwrap-last.ensures)) refl
+
+pub put_steps-requires-clause-whole : goal.put_steps-requires-clause-whole
+put_steps-requires-clause-whole c = c.no_steps-above.ensures.rest ∙ ap (λ n. n / c.root_ways-root.result) c.from-2.ensures
