@@ -33,3 +33,6 @@ returns-clause-none c =
     let one = ap (λ (x : Found). x.base) (get_or_from_slice_get founds k f f at) in
     omega (arith, high, one))
     last
+
+pub returns-then-has_range-2-clause-some : goal.returns-then-has_range-2-clause-some
+returns-then-has_range-2-clause-some c = search rules
