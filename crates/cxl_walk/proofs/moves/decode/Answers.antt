@@ -1,4 +1,4 @@
-use Rattle.std.proofs.Common.{◌≡◌, ℕ, true, refl, sym, ap, ◌∙◌}
+use Rattle.std.proofs.Common.{◌≡◌, ℕ, true, refl, sym, ap, ◌∙◌, rules}
 use Rattle.std.proofs.lemmas.Option.{slice_get_within}
 use Rattle.std.specs.Prelude.{slice_get}
 use Rattle.cxl_enc.proofs.Options.{some_and}
@@ -48,3 +48,6 @@ returns-in-None-clause-miss c =
       lacks_child c.args.topo.now c.args.image.now windows c.args.h c.args.node c.block-block.result.now c.capacity_at-capacity.result.ram c.capacity_at-capacity.result.pmem at c.in-Some.i c.entry_of-entry.result d kept (sym c.endpoint.ensures.value ∙ c.if-endpoint.false) c.decoder-d.ensures.value holds c.entry_of-entry.ensures.value
           (ap (λ (p : ℕ). child_of c.args.topo.now.nodes c.args.node p) (sym c.entry_at.ensures.port) ∙ sym c.in-None.ensures.child),
     )
+
+pub returns-in_default-clause-miss : goal.returns-in_default-clause-miss
+returns-in_default-clause-miss c = search rules
