@@ -29,7 +29,7 @@ use Rattle.cxl_session.specs.Standing.{StandsFor, IsAt, HasTaken}
 use Rattle.cxl_turns.specs.declared.stops.LineStop.{LineStop}
 use Rattle.cxl_turns.specs.declared.stops.LineStop.TheVariants as stops
 use Rattle.cxl_turns.specs.inner.CarriedOut.{IsAnswered, IsCutOff, IsLeft, IsCarriedOut}
-use Rattle.cxl_turns.specs.inner.Written.{IsWritten, IsCutShort, IsUntold, WritesText, WritesReply}
+use Rattle.cxl_turns.specs.inner.Written.{IsToldWhole, IsToldInPart, IsUntold, WritesText, WritesReply}
 use Rattle.cxl_turns.proofs.Going.{text_one, gone_none, gone_one, gone_same}
 use Rattle.cxl_turns.proofs.Silent.{silent_turn}
 
@@ -73,7 +73,7 @@ module _ (m : Machine) (one : Asked) (turn : Turn) (reply : Reply) (nodes : List
   told_text : reply_text nodes reply ≡ reply_text m.settled.nodes turn.reply
   told_text = ap (λ ns. reply_text ns reply) (sym same) ∙ ap (reply_text m.settled.nodes) taken.told
 
-  answered_one : IsWritten before after (reply_text nodes reply) → IsAnswered m (one ∷ []) session old new media before after
+  answered_one : IsToldWhole before after (reply_text nodes reply) → IsAnswered m (one ∷ []) session old new media before after
   answered_one is = record {
     turns = turn ∷ [];
     gone = gone_one m session old new media one turn reply takes taken;
@@ -82,7 +82,7 @@ module _ (m : Machine) (one : Asked) (turn : Turn) (reply : Reply) (nodes : List
     unswallowed = is.unswallowed;
   }
 
-  cut_one : IsCutShort before after (reply_text nodes reply) → IsCutOff m (one ∷ []) session old new media before after
+  cut_one : IsToldInPart before after (reply_text nodes reply) → IsCutOff m (one ∷ []) session old new media before after
   cut_one is = record {
     turn = turn;
     gone = gone_one m session old new media one turn reply takes taken;
@@ -140,6 +140,6 @@ bad_taken m fault session regs media at = record {
 -- it is that of the reply
 pub reply_written : (nodes : List Node) (before after : SinkState) (text : List ℕ) (reply : Reply) (result : Result (Unit {0}) LineStop) → text ≡ reply_text nodes reply
     → WritesText before after text result → WritesReply nodes before after reply result
-reply_written nodes before after text reply (Ok done) same is = subst (IsWritten before after) same is
-reply_written nodes before after text reply (Err stops.Sink) same is = subst (IsCutShort before after) same is
+reply_written nodes before after text reply (Ok done) same is = subst (IsToldWhole before after) same is
+reply_written nodes before after text reply (Err stops.Sink) same is = subst (IsToldInPart before after) same is
 reply_written nodes before after text reply (Err stops.Memory) same is = absurd is

@@ -31,14 +31,14 @@ use Rattle.cxl_turns.specs.declared.stops.LineStop.{LineStop}
 use Rattle.cxl_turns.specs.declared.stops.LineStop.TheVariants as stops
 use Rattle.cxl_turns.specs.Going.{HasGoneOn}
 use Rattle.cxl_turns.specs.Endings.{StopsReading, IsCutBehind, EndsLines, read_out, reply_cut, runs_out}
-use Rattle.cxl_turns.specs.inner.Stages.{Stage, EachFrom, IsEnd}
+use Rattle.cxl_turns.specs.inner.Moments.{Moment, EachFrom, IsEnd}
 use Rattle.cxl_turns.specs.inner.CarriedOut.{IsAnswered, IsCutOff, IsLeft, IsCarriedOut}
 use Rattle.cxl_turns.proofs.FirstLines.{GoesOnOrEnds, first_lines, first_but_last, no_first_lines, goes_on_or_ends, fault_rose, fault_going}
 use Rattle.cxl_turns.proofs.Going.{nodes_after, text_both, gone_same, gone_still, gone_both}
 use Rattle.cxl_turns.proofs.CarriedOut.{answered_none, takes_none}
 
 -- these lines were read, and all that they ask for is answered
-pub record HaveRun (reader : Reader) (start now : Stage) : Type 0 where
+pub record HaveRun (reader : Reader) (start now : Moment) : Type 0 where
   pub passed : List (List ℕ)
   pub read : HasRead passed start.script reader now.script
   pub goes : GoesOnOrEnds reader
@@ -51,7 +51,7 @@ pub record HaveRun (reader : Reader) (start now : Stage) : Type 0 where
 
 -- ---- before the first line
 
-pub run_begins : (start : Stage) → HaveRun fresh_reader start start
+pub run_begins : (start : Moment) → HaveRun fresh_reader start start
 run_begins start = record {
   passed = [];
   read = read-begin start.script;
@@ -65,7 +65,7 @@ run_begins start = record {
 }
 
 -- memory ran out there
-pub none_run : (start : Stage) → IsEnd start start endings.Memory
+pub none_run : (start : Moment) → IsEnd start start endings.Memory
 none_run start = record {
   ends = λ m at.
       ([], [], gone_same m start.session start.regs start.media at, runs_out [] (no_first_lines start.script) refl refl (takes_none start.sink start.sink refl) (λ _. refl) (λ _. refl));
@@ -116,7 +116,7 @@ reads_long passed reader next start before after read is =
 
 -- ---- one line more
 
-module _ (reader next : Reader) (start now later : Stage) (run : HaveRun reader start now) (asked : List Asked)
+module _ (reader next : Reader) (start now later : Moment) (run : HaveRun reader start now) (asked : List Asked)
     (one : ReadsOne run.passed next start.script later.script asked) (source : now.script.faults ≤ later.script.faults) (sink : now.sink.faults ≤ later.sink.faults) where
   asks : lines_asked (run.passed ++ one.line ∷ []) ≡ lines_asked run.passed ++ asked
   asks = lines_more run.passed (one.line ∷ []) ∙ ap (λ more. lines_asked run.passed ++ more) one.asks
@@ -215,7 +215,7 @@ module _ (reader next : Reader) (start now later : Stage) (run : HaveRun reader 
 -- ---- what a line came to, by its result
 
 -- the reader has passed on one line more, and this is what it came to
-pub record Took (passed : List (List ℕ)) (next : Reader) (start now later : Stage) (result : Result (Unit {0}) LineStop) : Type 0 where
+pub record Took (passed : List (List ℕ)) (next : Reader) (start now later : Moment) (result : Result (Unit {0}) LineStop) : Type 0 where
   pub asked : List Asked
   pub one : ReadsOne passed next start.script later.script asked
   pub carried : EachFrom now (λ m. IsCarriedOut m asked later.session now.regs later.regs later.media now.sink later.sink result)
@@ -224,7 +224,7 @@ pub record Took (passed : List (List ℕ)) (next : Reader) (start now later : St
   pub bus : now.regs.faults ≤ later.regs.faults
 
 -- the same where all is known by other names
-pub took_so : (passed : List (List ℕ)) (next : Reader) (start now : Stage) (script : SourceState) (session session' : SessionState) (regs regs' : RegsState) (media media' : MediaState) (sink sink' : SinkState) (result result' : Result (Unit {0}) LineStop)
+pub took_so : (passed : List (List ℕ)) (next : Reader) (start now : Moment) (script : SourceState) (session session' : SessionState) (regs regs' : RegsState) (media media' : MediaState) (sink sink' : SinkState) (result result' : Result (Unit {0}) LineStop)
     → session' ≡ session → regs' ≡ regs → media' ≡ media → sink' ≡ sink → result' ≡ result
     → Took passed next start now record { session = session; regs = regs; media = media; script = script; sink = sink } result
     → Took passed next start now record { session = session'; regs = regs'; media = media'; script = script; sink = sink' } result'
@@ -236,12 +236,12 @@ took_so passed next start now script session session' regs regs' media media' si
     (subst (λ s. Took passed next start now record { session = s; regs = regs; media = media; script = script; sink = sink } result) (sym es) took))))
 
 -- what `carry_out_line` and `tell_bad_line` say of one
-pub record Carries (now : Stage) (session : SessionState) (regs : RegsState) (media : MediaState) (told : SinkState) (asked : List Asked) (result : Result (Unit {0}) LineStop) : Type 0 where
+pub record Carries (now : Moment) (session : SessionState) (regs : RegsState) (media : MediaState) (told : SinkState) (asked : List Asked) (result : Result (Unit {0}) LineStop) : Type 0 where
   pub carried : EachFrom now (λ m. IsCarriedOut m asked session now.regs regs media now.sink told result)
   pub sink : now.sink.faults ≤ told.faults
   pub bus : now.regs.faults ≤ regs.faults
 
-pub took_one : (passed : List (List ℕ)) (next : Reader) (start now : Stage) (script : SourceState) (session : SessionState) (regs : RegsState) (media : MediaState) (sink : SinkState) (asked : List Asked) (result : Result (Unit {0}) LineStop)
+pub took_one : (passed : List (List ℕ)) (next : Reader) (start now : Moment) (script : SourceState) (session : SessionState) (regs : RegsState) (media : MediaState) (sink : SinkState) (asked : List Asked) (result : Result (Unit {0}) LineStop)
     → ReadsOne passed next start.script script asked → now.script.faults ≤ script.faults → Carries now session regs media sink asked result
     → Took passed next start now record { session = session; regs = regs; media = media; script = script; sink = sink } result
 took_one passed next start now script session regs media sink asked result one source carries = record {
@@ -253,7 +253,7 @@ took_one passed next start now script session regs media sink asked result one s
   bus = carries.bus;
 }
 
-module _ (reader next : Reader) (start now later : Stage) (result : Result (Unit {0}) LineStop) (run : HaveRun reader start now) (took : Took run.passed next start now later result) where
+module _ (reader next : Reader) (start now later : Moment) (result : Result (Unit {0}) LineStop) (run : HaveRun reader start now) (took : Took run.passed next start now later result) where
   known : (other : Result (Unit {0}) LineStop) → result ≡ other → EachFrom now (λ m. IsCarriedOut m took.asked later.session now.regs later.regs later.media now.sink later.sink other)
   known other is m at = subst (IsCarriedOut m took.asked later.session now.regs later.regs later.media now.sink later.sink) is (took.carried m at)
 
@@ -275,9 +275,9 @@ no_line answer (inl is) = (λ e. absurd (cc), λ e. absurd (cc))
 no_line answer (inr (inl is)) = (λ e. absurd (cc), λ e. absurd (cc))
 no_line answer (inr (inr is)) = (λ e. absurd (cc), λ e. absurd (cc))
 
-module _ (reader next : Reader) (start now : Stage) (after : SourceState) (run : HaveRun reader start now) (source : now.script.faults ≤ after.faults) where
+module _ (reader next : Reader) (start now : Moment) (after : SourceState) (run : HaveRun reader start now) (source : now.script.faults ≤ after.faults) where
   -- with the source as it is later
-  abbrev later : Stage
+  abbrev later : Moment
   later = record now { script = after }
 
   stops_so : (ending : Ending) → StopsReading ending run.passed start.script after → (ending ≡ endings.Done → LeavesCount start.script.counts_failures_alone start.script.faults after.faults)

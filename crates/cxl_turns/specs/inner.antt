@@ -1,4 +1,4 @@
 pub mod CarriedOut
 pub mod Counted
-pub mod Stages
+pub mod Moments
 pub mod Written

@@ -6,7 +6,7 @@ ghost use Rattle.cxl_machine.specs.Scripts.{Asked, Turn};
 ghost use Rattle.cxl_session.specs.Standing.{Stands, ForEachMachine};
 ghost use Rattle.cxl_turns.specs.Endings.{EndsLines};
 ghost use Rattle.cxl_turns.specs.Going.{HasGoneOn};
-ghost use Rattle.cxl_turns.specs.inner.Stages.{IsEnd};
+ghost use Rattle.cxl_turns.specs.inner.Moments.{IsEnd};
 
 use crate::carrying_out::{carry_out_line, tell_bad_line};
 use crate::endings::Ending;

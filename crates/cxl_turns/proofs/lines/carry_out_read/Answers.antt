@@ -4,7 +4,7 @@ use Rattle.cxl_io.specs.declared.line_reader.Taken.TheVariants as readers
 use Rattle.cxl_machine.specs.Turns.{machine_after}
 use Rattle.cxl_turns.specs.declared.stops.LineStop.{LineStop}
 use Rattle.cxl_turns.proofs.FirstLines.{still, falls}
-use Rattle.cxl_turns.specs.inner.Stages.{Stage}
+use Rattle.cxl_turns.specs.inner.Moments.{Moment}
 use Rattle.cxl_turns.proofs.Runs.{Took, took_one, run_begins, reads_line, reads_long, took_so, took_more, took_cut, took_left, run_done, run_fails, run_too_much}
 use Rattle.cxl_turns.proofs.lines.carry_out_read.Goals as goal
 use Rattle.cxl_turns.proofs.lines.carry_out_read.Goals.{in-Line, in-Long}
@@ -45,21 +45,21 @@ lines-smaller g c =
 
 pub lines-preserved : goal.lines-preserved
 lines-preserved g c =
-    let start : Stage = record {
+    let start : Moment = record {
       session = c.args.session.now;
       regs = g.R.Regs.state c.args.regs.now;
       media = g.M.Media.state c.args.media.now;
       script = g.S.Source.state c.args.script.now;
       sink = g.K.Sink.state c.args.out.now;
     } in
-    let now : Stage = record {
+    let now : Moment = record {
       session = c.lines.session;
       regs = g.R.Regs.state c.lines.regs;
       media = g.M.Media.state c.lines.media;
       script = g.S.Source.state c.lines.script;
       sink = g.K.Sink.state c.lines.out;
     } in
-    let later : Stage = record {
+    let later : Moment = record {
       session = c.match-next.session;
       regs = g.R.Regs.state c.match-next.regs;
       media = g.M.Media.state c.match-next.media;
@@ -84,21 +84,21 @@ lines-preserved g c =
 
 pub returns-in-Err-Sink : goal.returns-in-Err-Sink
 returns-in-Err-Sink g c =
-    let start : Stage = record {
+    let start : Moment = record {
       session = c.args.session.now;
       regs = g.R.Regs.state c.args.regs.now;
       media = g.M.Media.state c.args.media.now;
       script = g.S.Source.state c.args.script.now;
       sink = g.K.Sink.state c.args.out.now;
     } in
-    let now : Stage = record {
+    let now : Moment = record {
       session = c.lines.session;
       regs = g.R.Regs.state c.lines.regs;
       media = g.M.Media.state c.lines.media;
       script = g.S.Source.state c.lines.script;
       sink = g.K.Sink.state c.lines.out;
     } in
-    let later : Stage = record {
+    let later : Moment = record {
       session = c.match-next.session;
       regs = g.R.Regs.state c.match-next.regs;
       media = g.M.Media.state c.match-next.media;
@@ -120,21 +120,21 @@ returns-in-Err-Sink g c =
 
 pub returns-in-Err-Memory : goal.returns-in-Err-Memory
 returns-in-Err-Memory g c =
-    let start : Stage = record {
+    let start : Moment = record {
       session = c.args.session.now;
       regs = g.R.Regs.state c.args.regs.now;
       media = g.M.Media.state c.args.media.now;
       script = g.S.Source.state c.args.script.now;
       sink = g.K.Sink.state c.args.out.now;
     } in
-    let now : Stage = record {
+    let now : Moment = record {
       session = c.lines.session;
       regs = g.R.Regs.state c.lines.regs;
       media = g.M.Media.state c.lines.media;
       script = g.S.Source.state c.lines.script;
       sink = g.K.Sink.state c.lines.out;
     } in
-    let later : Stage = record {
+    let later : Moment = record {
       session = c.match-next.session;
       regs = g.R.Regs.state c.match-next.regs;
       media = g.M.Media.state c.match-next.media;
