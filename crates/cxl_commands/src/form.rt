@@ -206,7 +206,10 @@ fn create_on_line(alloc: Global, line: &[u8]) -> Result<Option<Create>, Memory>
 {
     match read_command(alloc, line) {
         Ok(Some(Command::Create(create))) => Ok(Some(create)),
-        Ok(_) | Err(LineFault::Bad(_)) => Ok(None),
         Err(LineFault::Memory) => Err(Memory),
+        other => {
+            drop(other);
+            Ok(None)
+        }
     }
 }

@@ -47,8 +47,9 @@ pub fn plan<F: Fetch>(
     ensures told { (F.state files.new).told ≡ (F.state files.old).told }
 {
     let host = fetch_reset_host(alloc, cedt, topo, files)?;
-    let outcome = line_outcome(alloc, &host, create)?;
-    Ok(outcome)
+    let outcome = line_outcome(alloc, &host, create);
+    drop(host);
+    Ok(outcome?)
 }
 
 /// What a create line comes to over a host. Takes memory.
@@ -65,8 +66,16 @@ fn line_outcome(alloc: Global, host: &OwnedHost, create: &Create) -> Result<Outc
         windows: &host.windows,
     };
     match asked_plan(alloc, create, &lent)? {
-        Ok(plan) => told(alloc, &plan, &host.topo),
-        Err(refusal) => refused(alloc, &refusal, &host.topo),
+        Ok(plan) => {
+            let outcome = told(alloc, &plan, &host.topo);
+            drop(plan);
+            outcome
+        }
+        Err(refusal) => {
+            let outcome = refused(alloc, &refusal, &host.topo);
+            drop(refusal);
+            outcome
+        }
     }
 }
 

@@ -11,11 +11,11 @@ returns-in-Ok c =
     let host = c.args.host.now in
     let s : System = system_of host.image host.topo host.windows.items in
     let lent = rw c.deref.ensures.value at c.in_ok-plan.ensures.plan in
-    plan_made s c.args.create.now c.in-Ok.plan (rw c.in-Ok.is at lent) c.told.result c.told.ensures
+    plan_made s c.args.create.now c.in-Ok.plan (rw c.in-Ok.is at lent) c.told-outcome.result c.told-outcome.ensures
 
 pub returns-in-Err : goal.returns-in-Err
 returns-in-Err c =
     let host = c.args.host.now in
     let s : System = system_of host.image host.topo host.windows.items in
     let lent = rw c.deref.ensures.value at c.in_ok-plan.ensures.refusal in
-    refusal_made s c.args.create.now c.in-Err.refusal (rw c.in-Err.is at lent) c.refused.result c.refused.ensures
+    refusal_made s c.args.create.now c.in-Err.refusal (rw c.in-Err.is at lent) c.refused-outcome.result c.refused-outcome.ensures

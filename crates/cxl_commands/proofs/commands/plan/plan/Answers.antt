@@ -20,4 +20,4 @@ pub returns-clause-comes : goal.returns-clause-comes
 returns-clause-comes g c =
     let host = c.in_ok-host.host in
     let read = c.in_ok-host.ensures.read in
-    plan-comes c.args.cedt.now c.args.topo.now c.args.create.now _ _ read.0 host.topo host.image host.windows.items c.in_ok-outcome.outcome read.1 read.2 c.in_ok-host.ensures.reset c.in_ok-host.ensures.asked c.in_ok-outcome.ensures
+    plan-comes c.args.cedt.now c.args.topo.now c.args.create.now _ _ read.0 host.topo host.image host.windows.items _ read.1 read.2 c.in_ok-host.ensures.reset c.in_ok-host.ensures.asked c.in_ok-outcome.ensures
