@@ -1,9 +1,11 @@
 //! The commands of `cxlplan` that work by their words and files alone.
 #![tactic(auto)]
 
+mod command_line;
 mod commands;
 mod form;
 
+pub use command_line::words;
 pub use commands::check::{check, check_statuses, checked};
 pub use commands::help::{HELP, VERSION, help_statuses};
 pub use commands::list::list_statuses;

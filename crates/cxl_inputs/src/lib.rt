@@ -18,7 +18,7 @@ pub use host::{OwnedHost, fetch_host};
 pub use image::given_image;
 pub use outcome::Outcome;
 pub use reset_host::fetch_reset_host;
-pub use status::Status;
+pub use status::{Status, ended};
 pub use stop::{Stop, finish};
 pub use table::{fetch_table, given_table};
 pub use table_windows::text_windows;

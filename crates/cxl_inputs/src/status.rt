@@ -1,10 +1,13 @@
 //! The ways in which a run ends, each with its exit status.
 
 ghost use Rattle.std.specs.Prelude.{◌≡◌};
+ghost use Rattle.std.specs.Process.{exit_status};
+ghost use Rattle.cxl_inputs.specs.Exit.{exit_code};
 
 use cxl_cedt::CedtFault;
 use cxl_image::ImageFault;
 use cxl_topofile::TopoFault;
+use std::process::ExitCode;
 
 /// How a run of the program ended. (This project's rule.)
 #[derive(Clone, Copy)]
@@ -39,8 +42,6 @@ pub enum Status {
 }
 
 impl Status {
-    ghost use Rattle.cxl_inputs.specs.Exit.{exit_code};
-
     /// The exit status of the program.
     pub fn code(&self) -> u8
         ensures { result ≡ exit_code self.now }
@@ -61,4 +62,11 @@ impl Status {
             Status::TooLarge => 12,
         }
     }
+}
+
+/// The exit status of a program is that of its run.
+pub fn ended(status: Status) -> ExitCode
+    ensures { exit_status result ≡ exit_code status }
+{
+    ExitCode::from(status.code())
 }

@@ -13,9 +13,9 @@ pub use commands::script::{over_session, unopened};
 pub use completeness::runs_are_complete;
 pub use cxl_commands::{
     HELP, VERSION, check_statuses, help_statuses, list_statuses, normal_statuses, plan_statuses,
-    route_statuses,
+    route_statuses, words,
 };
-pub use cxl_inputs::Status;
+pub use cxl_inputs::{Status, ended};
 pub use files::{file_statuses, image_statuses, table_statuses, topology_statuses};
 pub use headline::runs_are_flat;
 pub use runs::{run_ends, runs_of_files};

@@ -1,20 +1,14 @@
 //! Carries out a script as `cxlplan run` does, over registers of another program at the other end of two pipes.
 #![tactic(auto)]
 
-ghost use Rattle.std.specs.Prelude.{◌≡◌};
-ghost use Rattle.std.specs.Process.{exit_status};
-ghost use Rattle.cxl_inputs.specs.Exit.{exit_code};
-
 use cxl_hints::hint;
 use cxl_io::{Memory, StdFetch, StdSink, StdSource};
 use cxl_media::SimMedia;
 use cxl_pipe::PipeBus;
-use cxl_shell::{Status, run};
+use cxl_shell::{Status, ended, run, words};
 use std::fs::{File, OpenOptions};
-use std::io::ErrorKind;
+use std::io;
 use std::process::ExitCode;
-use std::rt::Env;
-use std::{env, io};
 
 /// What `--help` writes.
 const HELP: &str = "\
@@ -46,11 +40,8 @@ once; where one differs, the status is 7.
 const VERSION: &str = "cxlbench 1.0.0\n";
 
 fn main(rt: HostRuntime) -> ExitCode {
-    let words = match words(&rt) {
-        Ok(words) => words,
-        Err(e) if e.kind() == ErrorKind::OutOfMemory => return ended(Status::Memory),
-        // A word that is no text is in no command, and neither are no words.
-        Err(_) => Vec::new(rt.alloc()),
+    let Ok(words) = words(&rt) else {
+        return ended(Status::Memory);
     };
     let first = match words.first() {
         Some(word) => word.as_str(),
@@ -119,31 +110,33 @@ fn run_over(
     let alloc = rt.alloc();
     words.insert(0, String::from_str(alloc, "run")?)?;
     let mut regs = PipeBus::new(alloc, StdSource::new(answers), StdSink::new(questions))?;
+    let status = carried_out(rt, words.as_slice(), &mut regs);
+    drop(regs);
+    let _ = hint(rt, alloc, words.as_slice(), status);
+    drop(words);
+    Ok(status)
+}
+
+/// Carries out the words of `run`, over devices in memory.
+fn carried_out(
+    rt: &HostRuntime,
+    words: &[String],
+    regs: &mut PipeBus<StdSource<File>, StdSink<File>>,
+) -> Status {
+    let alloc = rt.alloc();
     let mut files = StdFetch::new(rt);
     let mut script = StdSource::new(rt.reader());
     let mut out = StdSink::new(io::writer(rt));
     let mut media = SimMedia::new(alloc);
     let status = run(
         alloc,
-        words.as_slice(),
+        words,
         &mut files,
         &mut script,
         &mut out,
-        &mut regs,
+        regs,
         &mut media,
     );
-    let _ = hint(rt, alloc, words.as_slice(), status);
-    Ok(status)
-}
-
-/// The exit status of the program is that of its run.
-fn ended(status: Status) -> ExitCode
-    ensures { exit_status result ≡ exit_code status }
-{
-    ExitCode::from(status.code())
-}
-
-/// The words of the command line without the name of the program.
-fn words(rt: &(impl Env + AllocGlobal)) -> io::Result<Vec<String>> {
-    Ok(env::args(rt)?.skip(1).collect(rt.alloc())?)
+    drop(media);
+    status
 }
