@@ -99,7 +99,9 @@ fn tree(rt: &impl Abort, alloc: Global, rows: &[Row]) -> Topo {
 /// Whether the nodes are a tree of so many.
 fn is_tree(rt: &impl Abort, alloc: Global, rows: &[Row], count: u32) -> bool {
     let topo = tree(rt, alloc, rows);
-    topo.count() == count
+    let found = topo.count();
+    drop(topo);
+    found == count
 }
 
 /// Whether the nodes have this fault.
@@ -154,6 +156,7 @@ fn says_what_nodes_are(rt: HostRuntime) {
     assert!(rt; are_found(&topo));
     assert!(rt; are_children(&topo));
     assert!(rt; are_said(&topo));
+    drop(topo);
 }
 
 /// Whether the landings are below what forwards, and the decoding ports above.
@@ -170,6 +173,7 @@ fn are_passed(topo: &Topo) -> bool {
 fn passes_what_forwards(rt: HostRuntime) {
     let topo = tree(&rt, rt.alloc(), &FORWARDING);
     assert!(rt; are_passed(&topo));
+    drop(topo);
 }
 
 /// What is changed of a node of the plain tree.

@@ -33,8 +33,10 @@ bridge = [{ name = \"hb0\", uid = 4294967295, passthrough = true }]
 endpoint = [{ name = \"e0\", parent = \"s1\", port = 0, ways3 = false, ways16 = false, pmem = 0x10000000 }]
 ";
 
-fn topo_from_text(alloc: Global, text: &str) -> Option<Topo> {
-    read_topo(alloc, text.as_bytes()).ok()
+fn topo_from_text(rt: &(impl Abort + AllocGlobal), text: &str) -> Topo {
+    read_topo(rt.alloc(), text.as_bytes())
+        .ok()
+        .expect(rt, "a topology")
 }
 
 /// Whether a tree's four nodes have these capability words.
@@ -81,9 +83,10 @@ fn is_plain(topo: &Topo) -> bool {
 
 #[test]
 fn plain(rt: HostRuntime) {
-    let topo = topo_from_text(rt.alloc(), PLAIN).expect(&rt, "a topology");
+    let topo = topo_from_text(&rt, PLAIN);
     assert!(rt; is_plain(&topo));
     assert!(rt; finds(&topo, "e1", 3));
+    drop(topo);
 }
 
 /// Whether a tree is that of the text with other values.
@@ -97,14 +100,16 @@ fn is_inline(topo: &Topo) -> bool {
 
 #[test]
 fn other_spelling(rt: HostRuntime) {
-    let topo = topo_from_text(rt.alloc(), INLINE).expect(&rt, "a topology");
+    let topo = topo_from_text(&rt, INLINE);
     assert!(rt; is_inline(&topo));
+    drop(topo);
 }
 
 #[test]
 fn no_nodes(rt: HostRuntime) {
-    let topo = topo_from_text(rt.alloc(), "bridge = []\n").expect(&rt, "a topology");
+    let topo = topo_from_text(&rt, "bridge = []\n");
     assert!(rt; topo.count() == 0);
+    drop(topo);
 }
 
 /// A text, and what is wrong with it.
@@ -205,7 +210,10 @@ const FAULTS: &[FaultRow] = &[
 /// Whether this is said of a text's fault.
 fn is_fault(alloc: Global, text: &str, want: &str) -> bool {
     match read_topo(alloc, text.as_bytes()) {
-        Ok(_) => false,
+        Ok(topo) => {
+            drop(topo);
+            false
+        }
         Err(fault) => prints(alloc, &fault, want),
     }
 }

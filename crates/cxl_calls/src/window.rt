@@ -138,10 +138,18 @@ fn only(rt: &impl Abort, alloc: Global, row: Row, uids: Option<&[u32]>) -> Windo
     judged(rt, alloc, &[row], uids).pop().expect(rt, "a window")
 }
 
+/// Whether the window at a place has this verdict.
+fn has_verdict(found: &[Window], place: usize, want: Verdict) -> bool {
+    match found.get(place) {
+        Some(window) => window.verdict() == want,
+        None => false,
+    }
+}
+
 /// Windows have the verdicts of their rows.
 fn have_verdicts(rt: &impl Abort, found: &[Window], rows: &[Row]) {
-    for (window, row) in found.iter().zip(rows) {
-        row_passes(rt, row.name, window.verdict() == row.verdict);
+    for (place, row) in rows.iter().enumerate() {
+        row_passes(rt, row.name, has_verdict(found, place, row.verdict));
     }
     assert!(rt; found.len() == rows.len());
 }
@@ -149,6 +157,7 @@ fn have_verdicts(rt: &impl Abort, found: &[Window], rows: &[Row]) {
 fn are_judged(rt: &(impl Abort + AllocGlobal), rows: &[Row]) {
     let found = judged(rt, rt.alloc(), rows, None);
     have_verdicts(rt, &found, rows);
+    drop(found);
 }
 
 /// Each verdict, in the order of the causes.
@@ -268,7 +277,9 @@ fn judges_windows(rt: HostRuntime) {
 /// The verdict of a table's only window where the topology has these bridges.
 fn verdict_with(rt: &impl Abort, alloc: Global, uids: &[u32]) -> Verdict {
     let window = only(rt, alloc, TWO, Some(uids));
-    window.verdict()
+    let verdict = window.verdict();
+    drop(window);
+    verdict
 }
 
 /// A target has to be one of the topology's bridges, where there is a topology.
@@ -304,7 +315,9 @@ struct Position {
 /// Whether an address has its position in the only window of a table.
 fn is_position(rt: &impl Abort, alloc: Global, at: &Position) -> bool {
     let window = only(rt, alloc, at.row, None);
-    slot_of(&window, at.h) == at.position
+    let position = slot_of(&window, at.h);
+    drop(window);
+    position == at.position
 }
 
 /// Positions of two, three and six ways, without XOR and with it.
@@ -389,6 +402,7 @@ fn keeps_fields_and_undoes_parities(rt: HostRuntime) {
     let window = two_by_xor(&rt, rt.alloc());
     assert!(rt; is_two_by_xor(&window));
     assert!(rt; undoes(&window));
+    drop(window);
 }
 
 /// Restrictions of a window, which kinds of memory they permit, and whether it is fixed.
@@ -448,15 +462,21 @@ const RESTRICTED: &[Restricted] = &[
 ];
 
 /// Whether the restrictions of a window say so.
+fn has_restrictions(window: &Window, row: &Restricted) -> bool {
+    permits(window, MemKind::Ram) == row.ram
+        && permits(window, MemKind::Pmem) == row.pmem
+        && is_fixed(window) == row.fixed
+}
+
 fn is_restricted(rt: &impl Abort, alloc: Global, row: &Restricted) -> bool {
     let two = Row {
         restrict: row.restrict,
         ..TWO
     };
     let window = only(rt, alloc, two, None);
-    permits(&window, MemKind::Ram) == row.ram
-        && permits(&window, MemKind::Pmem) == row.pmem
-        && is_fixed(&window) == row.fixed
+    let restricted = has_restrictions(&window, row);
+    drop(window);
+    restricted
 }
 
 fn are_restricted(rt: &(impl Abort + AllocGlobal), rows: &[Restricted]) {

@@ -124,6 +124,7 @@ fn files_in_memory(rt: HostRuntime) {
     let mut memory = files(&rt);
     assert!(rt; gives(rt.alloc(), &mut memory, "table", "CEDT"));
     tell(&rt, rt.alloc(), &mut memory, FETCHES);
+    drop(memory);
 }
 
 /// Two names are asked for.
@@ -150,6 +151,7 @@ fn names_in_memory(rt: HostRuntime) {
     let mut memory = MemFetch::new(Vec::new(alloc), Vec::new(alloc));
     assert!(rt; misses(alloc, &mut memory));
     assert!(rt; are_asked(memory.asked()));
+    drop(memory);
 }
 
 /// Writes a file of the system.
