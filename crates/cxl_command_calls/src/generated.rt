@@ -2,7 +2,7 @@
 
 use crate::common::row_passes;
 use cxl_cedt::{Cedt, write};
-use cxl_gen::{command_count, make, make_command};
+use cxl_gen::{Made, command_count, make, make_command};
 use cxl_script::Command;
 use std::alloc::Global;
 use std::process::Abort;
@@ -81,13 +81,20 @@ struct System {
     rows: &'static [Row],
 }
 
-fn is_made(rt: &(impl Abort + AllocGlobal), system: &System) -> bool {
-    assert!(rt; 1 <= system.number && system.number <= 32);
-    let made = make(rt.alloc(), system.number).expect(rt, "memory");
+/// Whether what was made is the system, as far as that is told.
+fn is_system(rt: &(impl Abort + AllocGlobal), made: &Made, system: &System) -> bool {
     let commands = made.commands.items();
     stand_there(rt, commands, system.rows);
     is_region(commands.get(system.place), system.region, system.last)
         && is_table(rt.alloc(), &made.cedt, system.table)
+}
+
+fn is_made(rt: &(impl Abort + AllocGlobal), system: &System) -> bool {
+    assert!(rt; 1 <= system.number && system.number <= 32);
+    let made = make(rt.alloc(), system.number).expect(rt, "memory");
+    let right = is_system(rt, &made, system);
+    drop(made);
+    right
 }
 
 #[test]
@@ -111,9 +118,11 @@ fn is_made_in_place(
         return false;
     }
     let mut command = Command::Abort;
-    make_command(alloc, number, place - 1, &mut command).is_ok()
+    let made = make_command(alloc, number, place - 1, &mut command).is_ok()
         && make_command(alloc, number, place, &mut command).is_ok()
-        && numbers(Some(&command)) == asked
+        && numbers(Some(&command)) == asked;
+    drop(command);
+    made
 }
 
 #[test]

@@ -113,42 +113,40 @@ fn sink(rt: &impl Abort, alloc: Global, room: u32) -> MemSink {
 fn tells(rt: &impl Abort, alloc: Global, topo: &[u8], image: &[u8], code: u8, lines: &str) -> bool {
     let mut out = sink(rt, alloc, 4096);
     let status = decoders(alloc, topo, image, &mut out);
-    status.code() == code && out.bytes() == lines.as_bytes()
+    let told = took(&out, lines);
+    drop(out);
+    status.code() == code && told
 }
 
 #[test]
 fn decoders_of_any_image(rt: HostRuntime) {
     let image = image_of(&rt, rt.alloc(), &WORDS);
-    row_passes(
-        &rt,
-        "an image",
-        tells(&rt, rt.alloc(), TOPOLOGY, &image, 0, BLOCKS),
-    );
-    assert!(&rt; image.len() >= 11);
-    let cut = &image[..11];
-    row_passes(
-        &rt,
-        "a cut image",
-        tells(&rt, rt.alloc(), TOPOLOGY, cut, 10, "error: image cut 11\n"),
-    );
-    row_passes(
-        &rt,
-        "no topology",
-        tells(&rt, rt.alloc(), b"[", &image, 4, "error: topology toml\n"),
-    );
+    are_told(&rt, rt.alloc(), &image);
     let long = image_of(&rt, rt.alloc(), &[0; 262_143]);
-    row_passes(
-        &rt,
-        "a long image",
-        tells(
-            &rt,
-            rt.alloc(),
-            TOPOLOGY,
-            &long,
-            12,
-            "error: image too large\n",
-        ),
+    is_too_large(&rt, rt.alloc(), &long);
+}
+
+/// An image, a front of it, and the image beside a file that holds no topology.
+fn are_told(rt: &impl Abort, alloc: Global, image: &[u8]) {
+    let told = tells(rt, alloc, TOPOLOGY, image, 0, BLOCKS);
+    row_passes(rt, "an image", told);
+    assert!(rt; image.len() >= 11);
+    let told = tells(
+        rt,
+        alloc,
+        TOPOLOGY,
+        &image[..11],
+        10,
+        "error: image cut 11\n",
     );
+    row_passes(rt, "a cut image", told);
+    let told = tells(rt, alloc, b"[", image, 4, "error: topology toml\n");
+    row_passes(rt, "no topology", told);
+}
+
+fn is_too_large(rt: &impl Abort, alloc: Global, image: &[u8]) {
+    let told = tells(rt, alloc, TOPOLOGY, image, 12, "error: image too large\n");
+    row_passes(rt, "a long image", told);
 }
 
 const BLOCKS: &str = "\
@@ -164,25 +162,31 @@ decoder ep0 0 base 0x0 size 0xf0000000 ways 1 gran 8388608 codes 7 15 lock 1 com
 #[test]
 fn a_topology(rt: HostRuntime) {
     let mut out = sink(&rt, rt.alloc(), 4096);
-    let status = tree(rt.alloc(), TOPOLOGY, &mut out);
-    row_passes(&rt, "the status of a topology", status.code() == 0);
-    row_passes(
-        &rt,
-        "the lines of a topology",
-        out.bytes() == NODES.as_bytes(),
-    );
+    tells_nodes(&rt, rt.alloc(), &mut out);
     let mut short = sink(&rt, rt.alloc(), 4);
-    let status = tree(rt.alloc(), TOPOLOGY, &mut short);
-    row_passes(
-        &rt,
-        "the status in a short room",
-        matches!(status, Status::WriteFault),
-    );
-    row_passes(
-        &rt,
-        "what a short room takes",
-        short.bytes() == b"fram".as_slice(),
-    );
+    tells_a_front(&rt, rt.alloc(), &mut short);
+}
+
+/// Whether a sink took this text.
+fn took(out: &MemSink, text: &str) -> bool {
+    out.bytes() == text.as_bytes()
+}
+
+fn tells_nodes(rt: &impl Abort, alloc: Global, out: &mut MemSink) {
+    let status = tree(alloc, TOPOLOGY, out);
+    row_passes(rt, "the status of a topology", status.code() == 0);
+    row_passes(rt, "the lines of a topology", took(out, NODES));
+}
+
+/// The front of the lines in a room of four bytes.
+fn tells_a_front(rt: &impl Abort, alloc: Global, out: &mut MemSink) {
+    let status = tree(alloc, TOPOLOGY, out);
+    row_passes(rt, "the status in a short room", is_write_fault(&status));
+    row_passes(rt, "what a short room takes", took(out, "fram"));
+}
+
+fn is_write_fault(status: &Status) -> bool {
+    matches!(status, Status::WriteFault)
 }
 
 const NODES: &str = "\
@@ -203,7 +207,15 @@ fn tells_places(
 ) -> bool {
     let mut out = sink(rt, alloc, 4096);
     let status = breaches(alloc, cedt, TOPOLOGY, image, &mut out);
-    status.code() == code && out.bytes() == lines.as_bytes()
+    let told = took(&out, lines);
+    drop(out);
+    status.code() == code && told
+}
+
+/// The same of the image of these words.
+fn tells_places_of(rt: &impl Abort, alloc: Global, words: &[u32], code: u8, lines: &str) -> bool {
+    let image = image_of(rt, alloc, words);
+    tells_places(rt, alloc, &TABLE, &image, code, lines)
 }
 
 #[test]
@@ -211,32 +223,23 @@ fn places_of_an_image(rt: HostRuntime) {
     let mut words = WORDS;
     words[17] = 0x0800; // the bridge's second decoder has an error
     words[29] = 0x0203; // the switch's is asked to commit
-    let broken = image_of(&rt, rt.alloc(), &words);
-    row_passes(
-        &rt,
-        "a broken image",
-        tells_places(&rt, rt.alloc(), &TABLE, &broken, 8, PLACES),
-    );
+    let told = tells_places_of(&rt, rt.alloc(), &words, 8, PLACES);
+    row_passes(&rt, "a broken image", told);
     words[9] = 0;
     words[17] = 0;
     words[29] = 0;
     words[41] = 0;
-    let idle = image_of(&rt, rt.alloc(), &words);
-    row_passes(
-        &rt,
-        "an accepted image",
-        tells_places(&rt, rt.alloc(), &TABLE, &idle, 0, ""),
-    );
-    row_passes(
-        &rt,
-        "no table",
-        tells_places(&rt, rt.alloc(), b"CEDT", b"", 3, "error: table short\n"),
-    );
-    row_passes(
-        &rt,
-        "no image",
-        tells_places(&rt, rt.alloc(), &TABLE, b"", 10, "error: image cut 0\n"),
-    );
+    let told = tells_places_of(&rt, rt.alloc(), &words, 0, "");
+    row_passes(&rt, "an accepted image", told);
+    are_refused(&rt, rt.alloc());
+}
+
+/// Files that hold no table and no image.
+fn are_refused(rt: &impl Abort, alloc: Global) {
+    let told = tells_places(rt, alloc, b"CEDT", b"", 3, "error: table short\n");
+    row_passes(rt, "no table", told);
+    let told = tells_places(rt, alloc, &TABLE, b"", 10, "error: image cut 0\n");
+    row_passes(rt, "no image", told);
 }
 
 const PLACES: &str = "\

@@ -89,7 +89,9 @@ fn is_printed(
     in_short: Option<bool>,
 ) -> bool {
     let topo = topology(rt);
-    is_put(rt, &topo, &reply, want, in_short)
+    let put = is_put(rt, &topo, &reply, want, in_short);
+    drop(topo);
+    put
 }
 
 /// The reply has this text, and no short one.

@@ -1,8 +1,9 @@
 //! The windows of a table as a topology lets them be used.
 
-use super::{TABLE, TOPOLOGY, sink};
+use super::{TABLE, TOPOLOGY, is_write_fault, sink, took};
 use crate::common::row_passes;
-use cxl_reads::{Status, windows};
+use cxl_io::MemSink;
+use cxl_reads::windows;
 use std::alloc::Global;
 use std::process::Abort;
 
@@ -41,45 +42,47 @@ const NO_MAPS: [u8; 152] = [
 fn tells(rt: &impl Abort, alloc: Global, cedt: &[u8], topo: &[u8], code: u8, lines: &str) -> bool {
     let mut out = sink(rt, alloc, 4096);
     let status = windows(alloc, cedt, topo, &mut out);
-    status.code() == code && out.bytes() == lines.as_bytes()
+    let told = took(&out, lines);
+    drop(out);
+    status.code() == code && told
 }
 
 #[test]
 fn windows_of_a_topology(rt: HostRuntime) {
-    let told = tells(&rt, rt.alloc(), &TABLE, TOPOLOGY, 0, NO_BRIDGE);
-    row_passes(&rt, "a bridge that the topology lacks", told);
+    lack_bridges(&rt, rt.alloc());
+    are_refused(&rt, rt.alloc());
+    let mut short = sink(&rt, rt.alloc(), 6);
+    tells_a_front(&rt, rt.alloc(), &mut short);
+}
+
+/// Windows with a bridge that one of the files lacks, or that is of CXL 1.1.
+fn lack_bridges(rt: &impl Abort, alloc: Global) {
+    let told = tells(rt, alloc, &TABLE, TOPOLOGY, 0, NO_BRIDGE);
+    row_passes(rt, "a bridge that the topology lacks", told);
     let mut table = TABLE;
     table[9] = 0x12;
     table[76] = 0; // the second bridge's version
-    let told = tells(&rt, rt.alloc(), &table, TOPOLOGY, 0, NO_CXL2);
-    row_passes(&rt, "a bridge of CXL 1.1", told);
+    let told = tells(rt, alloc, &table, TOPOLOGY, 0, NO_CXL2);
+    row_passes(rt, "a bridge of CXL 1.1", told);
     table[76] = 1;
     table[72] = 8; // its UID
-    let told = tells(&rt, rt.alloc(), &table, TOPOLOGY, 0, NO_CHBS);
-    row_passes(&rt, "a bridge that the table lacks", told);
-    let told = tells(
-        &rt,
-        rt.alloc(),
-        b"CEDT",
-        TOPOLOGY,
-        3,
-        "error: table short\n",
-    );
-    row_passes(&rt, "no table", told);
-    let told = tells(&rt, rt.alloc(), &TABLE, b"[", 4, "error: topology toml\n");
-    row_passes(&rt, "no topology", told);
-    let mut short = sink(&rt, rt.alloc(), 6);
-    let status = windows(rt.alloc(), &TABLE, TOPOLOGY, &mut short);
-    row_passes(
-        &rt,
-        "the status in a short room",
-        matches!(status, Status::WriteFault),
-    );
-    row_passes(
-        &rt,
-        "what a short room takes",
-        short.bytes() == b"window".as_slice(),
-    );
+    let told = tells(rt, alloc, &table, TOPOLOGY, 0, NO_CHBS);
+    row_passes(rt, "a bridge that the table lacks", told);
+}
+
+/// Files that hold no table and no topology.
+fn are_refused(rt: &impl Abort, alloc: Global) {
+    let told = tells(rt, alloc, b"CEDT", TOPOLOGY, 3, "error: table short\n");
+    row_passes(rt, "no table", told);
+    let told = tells(rt, alloc, &TABLE, b"[", 4, "error: topology toml\n");
+    row_passes(rt, "no topology", told);
+}
+
+/// The front of the lines in a room of six bytes.
+fn tells_a_front(rt: &impl Abort, alloc: Global, out: &mut MemSink) {
+    let status = windows(alloc, &TABLE, TOPOLOGY, out);
+    row_passes(rt, "the status in a short room", is_write_fault(&status));
+    row_passes(rt, "what a short room takes", took(out, "window"));
 }
 
 #[test]

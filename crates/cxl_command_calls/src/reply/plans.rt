@@ -176,7 +176,11 @@ fn plan_text(rt: &(impl Abort + AllocGlobal), topo: &Topo, plan: &Plan) -> Vec<u
 fn is_planned(rt: &(impl Abort + AllocGlobal), want: &str) -> bool {
     let topo = topology(rt);
     let plan = plan(rt);
-    is_told_plan(&plan, &topo) && plan_text(rt, &topo, &plan).as_slice() == want.as_bytes()
+    let planned = is_told_plan(&plan, &topo)
+        && plan_text(rt, &topo, &plan).as_slice() == want.as_bytes();
+    drop(plan);
+    drop(topo);
+    planned
 }
 
 #[test]
@@ -198,6 +202,8 @@ fn image_text(rt: &(impl Abort + AllocGlobal)) -> Vec<u8> {
     assert!(rt; is_told_found(&found, &topo));
     put_found(&mut text, &found, &topo).expect(rt, "memory");
     put_breach(&mut text, 9, 0, 0, &topo).expect(rt, "memory");
+    drop(found);
+    drop(topo);
     text
 }
 
