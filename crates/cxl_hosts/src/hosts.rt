@@ -206,6 +206,7 @@ pub(crate) fn host_of(
     let windows = windows_of(rt, alloc, &table, topo.uids());
     let mut image = image_of(rt, alloc, &topo);
     commit_all(rt, alloc, &mut image, ranges);
+    drop(table);
     Worked {
         topo,
         windows,

@@ -43,7 +43,9 @@ fn is_picked(rt: &impl Abort, alloc: Global, row: &Row) -> bool {
         gran: None,
         ways: row.ways,
     };
-    shows(alloc, &picked(rt, alloc, &host, &want), row.picked)
+    let endpoints = picked(rt, alloc, &host, &want);
+    drop(host);
+    shows(alloc, &endpoints, row.picked)
 }
 
 /// Checks each row.

@@ -56,13 +56,16 @@ fn has_rows(rt: &impl Abort, alloc: Global, row: &RowsWanted) -> bool {
         gran: None,
         endpoints: row.endpoints,
     };
-    match planned_over(rt, alloc, row.nodes, row.windows, "", &asked) {
+    let planned = planned_over(rt, alloc, row.nodes, row.windows, "", &asked);
+    let right = match &planned {
         Ok(plan) => {
             are_rows(rt, alloc, plan.rows.items(), row.rows)
                 && are_spans(rt, alloc, plan.found.spans.items(), row.spans)
         }
         Err(_) => false,
-    }
+    };
+    drop(planned);
+    right
 }
 
 #[test]

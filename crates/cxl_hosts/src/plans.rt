@@ -85,7 +85,11 @@ pub(crate) fn planned_over(
     asked: &Asked,
 ) -> Result<Plan, PlanFault> {
     let host = host_of(rt, alloc, nodes, windows, ranges);
-    planned(rt, alloc, &host, &request_of(rt, alloc, asked))
+    let request = request_of(rt, alloc, asked);
+    let plan = planned(rt, alloc, &host, &request);
+    drop(request);
+    drop(host);
+    plan
 }
 
 /// A name, a host, what is asked for, and the plan's window, base, granularity code and ways, or the fault.

@@ -80,7 +80,9 @@ fn touches(rt: &impl Abort, alloc: Global, told: &Poisoned, parts: &str, unmappe
 
 fn is_told(rt: &impl Abort, alloc: Global, row: &Row) -> bool {
     let host = host_of(rt, alloc, row.nodes, row.windows, row.ranges);
-    is_told_over(rt, alloc, &host, row)
+    let told = is_told_over(rt, alloc, &host, row);
+    drop(host);
+    told
 }
 
 /// The same over the row's host.

@@ -115,17 +115,23 @@ fn has_spread(spread: &[u64; 16], want: &[u64]) -> bool {
 }
 
 /// Whether this is what the row says.
-fn says(rt: &impl Abort, alloc: Global, told: &Told, row: &Row) -> bool {
-    are_extents(rt, alloc, &told.extents, row.extents)
-        && has_spread(&told.spread, &numbers(rt, alloc, row.spread))
+fn says(rt: &impl Abort, alloc: Global, told: &Option<Told>, row: &Row) -> bool {
+    match told {
+        Some(told) => {
+            are_extents(rt, alloc, &told.extents, row.extents)
+                && has_spread(&told.spread, &numbers(rt, alloc, row.spread))
+        }
+        None => false,
+    }
 }
 
 fn is_told(rt: &impl Abort, alloc: Global, row: &Row) -> bool {
     let host = host_of(rt, alloc, row.nodes, row.windows, row.ranges);
-    match told_of(alloc, &host, row.h, row.len) {
-        Some(told) => says(rt, alloc, &told, row),
-        None => false,
-    }
+    let told = told_of(alloc, &host, row.h, row.len);
+    let said = says(rt, alloc, &told, row);
+    drop(told);
+    drop(host);
+    said
 }
 
 #[test]
