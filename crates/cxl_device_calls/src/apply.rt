@@ -23,7 +23,9 @@ use std::test::*;
 /// Two bridges with an endpoint each, after reset.
 fn two_bridges(rt: &impl Abort, alloc: Global) -> Image {
     let topo = topology(rt, alloc, false);
-    after_reset(rt, alloc, &topo)
+    let image = after_reset(rt, alloc, &topo);
+    drop(topo);
+    image
 }
 
 /// Enables a node's block, on the bus and in the image, which hold the same. It does nothing where the bus fails.
@@ -283,7 +285,9 @@ impl Run {
     /// The bytes of the image's file after the writes that are left.
     fn text_ahead(&self, rt: &impl Abort, alloc: Global) -> Vec<u8> {
         let ahead = self.job.ahead(alloc, &self.image).expect(rt, "memory");
-        text_of(rt, alloc, &ahead)
+        let text = text_of(rt, alloc, &ahead);
+        drop(ahead);
+        text
     }
 }
 
@@ -343,6 +347,7 @@ fn is_undone(run: &mut Run) -> bool {
 fn a_create_that_is_undone(rt: HostRuntime) {
     let mut run = Run::create(&rt, rt.alloc(), &[5]);
     assert!(rt; is_undone(&mut run));
+    drop(run);
 }
 
 /// Whether a create goes on up to a fault at this write, and back up to one at this call after it began.
@@ -365,7 +370,9 @@ fn is_undone_and_made(rt: &impl Abort, alloc: Global, call: u32, undo: u32) -> b
     // The second fault may be still to come.
     run.forth();
     run.forth();
-    met && undone && run.has_text(rt, alloc, &after)
+    let made = run.has_text(rt, alloc, &after);
+    drop(run);
+    met && undone && made
 }
 
 #[test]
@@ -388,10 +395,12 @@ fn is_released_and_back(run: &mut Run) -> bool {
 
 #[test]
 fn a_release(rt: HostRuntime) {
-    let mut run = Run::create(&rt, rt.alloc(), &[]);
+    let alloc = rt.alloc();
+    let mut run = Run::create(&rt, alloc, &[]);
     run.forth();
-    run.release(&rt, rt.alloc());
+    run.release(&rt, alloc);
     assert!(rt; is_released_and_back(&mut run));
+    drop(run);
 }
 
 /// Whether a job makes all its writes on the simulator's bus.
@@ -401,17 +410,22 @@ fn is_made(rt: &impl Abort, alloc: Global, job: &mut Job, image: &mut Image) -> 
     let mut bus = SimBus::new(alloc);
     bus.power_on(alloc, image.blocks()).expect(rt, "memory");
     forth(job, image, &mut bus);
+    drop(bus);
     job.done() == job.total()
 }
 
 #[test]
 fn over_the_simulators_bus(rt: HostRuntime) {
+    let alloc = rt.alloc();
     let Run {
         mut job,
         mut image,
-        bus: _,
-    } = Run::create(&rt, rt.alloc(), &[]);
-    assert!(rt; is_made(&rt, rt.alloc(), &mut job, &mut image));
+        bus,
+    } = Run::create(&rt, alloc, &[]);
+    drop(bus);
+    assert!(rt; is_made(&rt, alloc, &mut job, &mut image));
+    drop(job);
+    drop(image);
 }
 
 #[test]

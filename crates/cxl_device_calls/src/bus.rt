@@ -30,12 +30,20 @@ fn set_bits<R: Regs>(regs: &mut R, node: u32, off: u32, bits: u32) -> Result<u32
     Ok(word)
 }
 
+/// The block of an endpoint or of a port after reset.
+fn block(endpoint: bool) -> Block {
+    if endpoint {
+        Block::new(0x1b02, true)
+    } else {
+        Block::new(0x382, false)
+    }
+}
+
 /// The blocks of endpoints (true) and of ports after reset.
 fn blocks(rt: &impl Abort, alloc: Global, endpoints: &[bool]) -> Vec<Block> {
     let mut blocks = Vec::new(alloc);
     for endpoint in endpoints {
-        let cap = if *endpoint { 0x1b02 } else { 0x382 };
-        blocks.push(Block::new(cap, *endpoint)).expect(rt, "memory");
+        blocks.push(block(*endpoint)).expect(rt, "memory");
     }
     blocks
 }
@@ -67,15 +75,18 @@ fn keeps_word(bus: &mut SimBus, blocks: &[Block], node: u32, off: u32, value: u3
 
 #[test]
 fn the_simulators_bus(rt: HostRuntime) {
-    let blocks = blocks(&rt, rt.alloc(), &[true, false]);
-    let mut bus = SimBus::new(rt.alloc());
-    bus.power_on(rt.alloc(), &blocks).expect(&rt, "memory");
+    let alloc = rt.alloc();
+    let blocks = blocks(&rt, alloc, &[true, false]);
+    let mut bus = SimBus::new(alloc);
+    bus.power_on(alloc, &blocks).expect(&rt, "memory");
     let place = is_place(&blocks, 0, 0x04);
     assert!(rt; place);
     assert!(rt; keeps_word(&mut bus, &blocks, 1, 0x18, 0x1000_0000));
     let written = bus.write32(0, 0x04, 0x2).is_ok();
     let word = set_bits(&mut bus, 0, 0x04, 0x0);
     assert!(rt; written && matches!(word, Ok(0x2)));
+    drop(bus);
+    drop(blocks);
 }
 
 /// Whether a call writes or reads, the node and the offset, the value that is written or read, and whether the call fails.
@@ -138,7 +149,10 @@ fn is_sent(rt: &impl Abort, alloc: Global, run: &Run) -> bool {
     let blocks = blocks(rt, alloc, run.endpoints);
     let mut bus = bus_over(rt, alloc, &blocks, run.fails);
     are_answered(rt, &mut bus, &blocks, run.calls);
-    bus.trail() == run.sent && bus.failed_at() == run.failed_at
+    let sent = bus.trail() == run.sent && bus.failed_at() == run.failed_at;
+    drop(bus);
+    drop(blocks);
+    sent
 }
 
 /// A port's global control drops the value, and the trail tells the write all the same.

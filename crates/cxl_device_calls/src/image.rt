@@ -63,7 +63,9 @@ pub(crate) fn text_of(rt: &impl Abort, alloc: Global, image: &Image) -> Vec<u8> 
 
 fn reset_file(rt: &impl Abort, alloc: Global, topo: &Topo) -> Vec<u8> {
     let image = after_reset(rt, alloc, topo);
-    text_of(rt, alloc, &image)
+    let text = text_of(rt, alloc, &image);
+    drop(image);
+    text
 }
 
 /// The file with the byte at a place changed.
@@ -85,13 +87,18 @@ fn has_text(rt: &impl Abort, alloc: Global, image: &Image, want: &[u8]) -> bool 
 /// Whether a file is read, and written as these bytes.
 fn is_written(rt: &impl Abort, alloc: Global, topo: &Topo, bytes: &[u8], want: &[u8]) -> bool {
     let image = read(rt, alloc, topo, bytes);
-    has_text(rt, alloc, &image, want)
+    let written = has_text(rt, alloc, &image, want);
+    drop(image);
+    written
 }
 
 /// Whether a file is refused for this fault.
 fn is_refused(alloc: Global, topo: &Topo, bytes: &[u8], want: ImageFault) -> bool {
     match read_image(alloc, bytes, topo) {
-        Ok(_) => false,
+        Ok(image) => {
+            drop(image);
+            false
+        }
         Err(fault) => fault == want,
     }
 }
@@ -106,9 +113,12 @@ fn is_reset(image: &Image) -> bool {
 
 #[test]
 fn the_reset_image(rt: HostRuntime) {
-    let topo = topology(&rt, rt.alloc(), false);
-    let image = after_reset(&rt, rt.alloc(), &topo);
+    let alloc = rt.alloc();
+    let topo = topology(&rt, alloc, false);
+    let image = after_reset(&rt, alloc, &topo);
     assert!(rt; is_reset(&image));
+    drop(image);
+    drop(topo);
 }
 
 fn is_reset_file(bytes: &[u8]) -> bool {
@@ -117,18 +127,24 @@ fn is_reset_file(bytes: &[u8]) -> bool {
 
 #[test]
 fn the_reset_file(rt: HostRuntime) {
-    let topo = topology(&rt, rt.alloc(), false);
-    let whole = reset_file(&rt, rt.alloc(), &topo);
+    let alloc = rt.alloc();
+    let topo = topology(&rt, alloc, false);
+    let whole = reset_file(&rt, alloc, &topo);
     assert!(rt; is_reset_file(&whole));
-    assert!(rt; is_written(&rt, rt.alloc(), &topo, &whole, &whole));
-    drops_what_does_not_count(&rt, rt.alloc(), &topo, &whole, DROPPED);
+    assert!(rt; is_written(&rt, alloc, &topo, &whole, &whole));
+    drops_what_does_not_count(&rt, alloc, &topo, &whole, DROPPED);
+    drop(whole);
+    drop(topo);
 }
 
 #[test]
 fn the_file_of_forwarding_bridges(rt: HostRuntime) {
-    let topo = topology(&rt, rt.alloc(), true);
-    let bytes = reset_file(&rt, rt.alloc(), &topo);
+    let alloc = rt.alloc();
+    let topo = topology(&rt, alloc, true);
+    let bytes = reset_file(&rt, alloc, &topo);
     assert!(rt; bytes.len() == 396);
+    drop(bytes);
+    drop(topo);
 }
 
 #[test]
@@ -258,12 +274,15 @@ fn each_prefix_is_cut(rt: &impl Abort, alloc: Global, topo: &Topo, whole: &[u8])
 
 #[test]
 fn faults(rt: HostRuntime) {
-    let topo = topology(&rt, rt.alloc(), false);
-    let whole = reset_file(&rt, rt.alloc(), &topo);
-    have_first_faults(&rt, rt.alloc(), &topo, &whole, FIRST_FAULTS);
-    assert!(rt; earlier_field_comes_first(&rt, rt.alloc(), &topo, &whole));
-    assert!(rt; byte_too_many_comes_last(&rt, rt.alloc(), &topo, &whole));
-    each_prefix_is_cut(&rt, rt.alloc(), &topo, &whole);
+    let alloc = rt.alloc();
+    let topo = topology(&rt, alloc, false);
+    let whole = reset_file(&rt, alloc, &topo);
+    have_first_faults(&rt, alloc, &topo, &whole, FIRST_FAULTS);
+    assert!(rt; earlier_field_comes_first(&rt, alloc, &topo, &whole));
+    assert!(rt; byte_too_many_comes_last(&rt, alloc, &topo, &whole));
+    each_prefix_is_cut(&rt, alloc, &topo, &whole);
+    drop(whole);
+    drop(topo);
 }
 
 /// A byte of the reset file that is read as the reset image, and its place.
@@ -358,15 +377,20 @@ fn has_second(image: &Image, node: u32, size: u64) -> bool {
 /// Whether a file is kept, with the second decoder of the first endpoint.
 fn keeps_second(rt: &impl Abort, alloc: Global, topo: &Topo, bytes: &[u8]) -> bool {
     let image = read(rt, alloc, topo, bytes);
-    has_text(rt, alloc, &image, bytes) && has_second(&image, 2, 0x2000_0000_0000)
+    let kept = has_text(rt, alloc, &image, bytes) && has_second(&image, 2, 0x2000_0000_0000);
+    drop(image);
+    kept
 }
 
 /// A decoder that is committed behind one that is not: no writes lead to it, and a file may hold it.
 #[test]
 fn any_registers_are_read(rt: HostRuntime) {
-    let topo = topology(&rt, rt.alloc(), false);
-    let bytes = with_bytes(&rt, rt.alloc(), &topo, (365, 0x14), (361, 0x20));
-    assert!(rt; keeps_second(&rt, rt.alloc(), &topo, &bytes));
+    let alloc = rt.alloc();
+    let topo = topology(&rt, alloc, false);
+    let bytes = with_bytes(&rt, alloc, &topo, (365, 0x14), (361, 0x20));
+    assert!(rt; keeps_second(&rt, alloc, &topo, &bytes));
+    drop(bytes);
+    drop(topo);
 }
 
 /// Whether a write to the third node has this effect.
@@ -383,10 +407,15 @@ fn writes_three(image: &mut Image) -> bool {
 
 #[test]
 fn writes_one_block(rt: HostRuntime) {
-    let topo = topology(&rt, rt.alloc(), false);
-    let mut image = after_reset(&rt, rt.alloc(), &topo);
+    let alloc = rt.alloc();
+    let topo = topology(&rt, alloc, false);
+    let mut image = after_reset(&rt, alloc, &topo);
     assert!(rt; writes_three(&mut image));
-    let copy = image.copy(rt.alloc()).expect(&rt, "memory");
-    let want = with_bytes(&rt, rt.alloc(), &topo, (304, 0x02), (327, 0x10));
-    assert!(rt; has_text(&rt, rt.alloc(), &copy, &want));
+    let copy = image.copy(alloc).expect(&rt, "memory");
+    let want = with_bytes(&rt, alloc, &topo, (304, 0x02), (327, 0x10));
+    assert!(rt; has_text(&rt, alloc, &copy, &want));
+    drop(want);
+    drop(copy);
+    drop(image);
+    drop(topo);
 }

@@ -377,8 +377,12 @@ fn answers_twice<M: Roll>(rt: &impl Abort, alloc: Global, media: &mut M, rows: &
 }
 
 fn answer_alike(rt: &impl Abort, alloc: Global, rows: &[Row]) {
-    assert!(rt; answers_twice(rt, alloc, &mut MapMedia::new(alloc), rows));
-    assert!(rt; answers_twice(rt, alloc, &mut SimMedia::new(alloc), rows));
+    let mut map = MapMedia::new(alloc);
+    assert!(rt; answers_twice(rt, alloc, &mut map, rows));
+    drop(map);
+    let mut sim = SimMedia::new(alloc);
+    assert!(rt; answers_twice(rt, alloc, &mut sim, rows));
+    drop(sim);
 }
 
 #[test]
@@ -437,8 +441,12 @@ fn keeps_others<M: Roll>(alloc: Global, media: &mut M) -> bool {
 #[test]
 fn every_second_block_is_scrubbed(rt: HostRuntime) {
     let alloc = rt.alloc();
-    assert!(rt; keeps_others(alloc, &mut MapMedia::new(alloc)));
-    assert!(rt; keeps_others(alloc, &mut SimMedia::new(alloc)));
+    let mut map = MapMedia::new(alloc);
+    assert!(rt; keeps_others(alloc, &mut map));
+    drop(map);
+    let mut sim = SimMedia::new(alloc);
+    assert!(rt; keeps_others(alloc, &mut sim));
+    drop(sim);
 }
 
 /// The bytes of a block are those of its frame in the pool.
@@ -462,5 +470,7 @@ fn takes_a_frame(alloc: Global, media: &mut SimMedia) -> bool {
 #[test]
 fn blocks_stand_in_frames(rt: HostRuntime) {
     let alloc = rt.alloc();
-    assert!(rt; takes_a_frame(alloc, &mut SimMedia::new(alloc)));
+    let mut media = SimMedia::new(alloc);
+    assert!(rt; takes_a_frame(alloc, &mut media));
+    drop(media);
 }

@@ -1,7 +1,7 @@
 //! The bytes of a region moved and copied to another, over both media: one of ram and one of pmem, 256 MiB each, on the
 //! device of one endpoint.
 
-ghost use Rattle.std.specs.Prelude.{◌≡◌, [], ◌∷◌, Some, IfOk};
+ghost use Rattle.std.specs.Prelude.{◌≡◌, [], ◌∷◌, Some};
 ghost use Rattle.cxl_enc.specs.declared.caps.MemKind.TheVariants.{Ram, Pmem};
 ghost use Rattle.cxl_window.specs.Windows.{windows_of};
 ghost use Rattle.cxl_model.specs.System.{System, IsSystem};
@@ -16,7 +16,7 @@ use cxl_model::{FixedList, Found, MemKind, Place, accepted_where_whole, regions_
 use cxl_move::{Side, copy_bytes, held, move_bytes, span_byte};
 use cxl_window::{Window, windows};
 use cxl_worked::{layouts_are_systems, regions_on_layouts, rules_on_layouts};
-use std::alloc::{AllocError, Global};
+use std::alloc::Global;
 use std::process::Abort;
 use std::test::*;
 
@@ -37,10 +37,10 @@ const BRIDGE: Chbs = Chbs {
 };
 
 /// A table with one bridge and a window of it alone.
-fn table_of_one(alloc: Global) -> Result<Cedt, AllocError>
-    ensures { IfOk result (λ table. windows_of table.records (Some (0 ∷ [])) ≡ window_of_one ∷ []) }
+fn table_of_one(rt: &impl Abort, alloc: Global) -> Cedt
+    ensures { windows_of result.records (Some (0 ∷ [])) ≡ window_of_one ∷ [] }
 {
-    let targets = vec![in alloc; 0]?;
+    let targets = Vec::from_slice(alloc, &[0]).expect(rt, "memory");
     let window = Cfmws::new(
         0x1_0000_0000,
         0x1_0000_0000,
@@ -51,16 +51,19 @@ fn table_of_one(alloc: Global) -> Result<Cedt, AllocError>
         0,
         targets,
     );
-    let records = vec![in alloc; Record::Chbs(BRIDGE), Record::Cfmws(window)]?;
-    let table = Cedt::new(HEAD, records);
-    Ok(table)
+    let mut records = Vec::new(alloc);
+    records.push(Record::Chbs(BRIDGE)).expect(rt, "memory");
+    records.push(Record::Cfmws(window)).expect(rt, "memory");
+    Cedt::new(HEAD, records)
 }
 
 fn windows_of_one(rt: &impl Abort, alloc: Global) -> Vec<Window>
     ensures { result.items ≡ window_of_one ∷ [] }
 {
-    let table = table_of_one(alloc).expect(rt, "memory");
-    windows(alloc, &table, Some(&[0])).expect(rt, "memory")
+    let table = table_of_one(rt, alloc);
+    let windows = windows(alloc, &table, Some(&[0])).expect(rt, "memory");
+    drop(table);
+    windows
 }
 
 /// A region of one way from a device address of the endpoint on.
@@ -215,8 +218,12 @@ fn both_carry(alloc: Global, ram: &Side<'_>, pmem: &Side<'_>) -> bool
     requires ram { AreSides ram.now.found.now ram.now.window.now pmem.now.found.now pmem.now.window.now }
     requires pmem { AreSides pmem.now.found.now pmem.now.window.now ram.now.found.now ram.now.window.now }
 {
-    carries(alloc, &mut MapMedia::new(alloc), ram, pmem)
-        && carries(alloc, &mut SimMedia::new(alloc), ram, pmem)
+    let mut map = MapMedia::new(alloc);
+    let mut sim = SimMedia::new(alloc);
+    let over_both = carries(alloc, &mut map, ram, pmem) && carries(alloc, &mut sim, ram, pmem);
+    drop(map);
+    drop(sim);
+    over_both
 }
 
 /// Whether the bytes of a region's slot are all those of its span, here the 256 MiB from 1 GiB on.
@@ -253,4 +260,7 @@ fn pieces_are_carried_over(rt: HostRuntime) {
     let ram = region_at(&rt, alloc, 0x1_0000_0000, MemKind::Ram, 0);
     let pmem = region_at(&rt, alloc, 0x1_1000_0000, MemKind::Pmem, 0x4000_0000);
     assert!(rt; are_carried(alloc, &windows[0], &ram, &pmem));
+    drop(pmem);
+    drop(ram);
+    drop(windows);
 }

@@ -1,6 +1,6 @@
 //! A worked region over two endpoints: its window, its weave, and where its bytes are dealt.
 
-ghost use Rattle.std.specs.Prelude.{◌≡◌, [], ◌∷◌, Some, IfOk};
+ghost use Rattle.std.specs.Prelude.{◌≡◌, [], ◌∷◌, Some};
 ghost use Rattle.cxl_window.specs.Windows.{windows_of};
 ghost use Rattle.cxl_worked.specs.ExampleRegions.{region_of_two};
 ghost use Rattle.cxl_worked.specs.Examples.{window_of_both};
@@ -10,7 +10,7 @@ use cxl_deal::{Dealt, Weave, deal};
 use cxl_model::{FixedList, Found, MemKind, Place, weave_of};
 use cxl_window::{Window, windows};
 use cxl_worked::{examples_are_systems, regions_on_examples};
-use std::alloc::{AllocError, Global};
+use std::alloc::Global;
 use std::process::Abort;
 use std::test::*;
 
@@ -33,26 +33,26 @@ const BRIDGE: Chbs = Chbs {
 };
 
 /// A table with two bridges and one window over both.
-fn table_of_two(alloc: Global) -> Result<Cedt, AllocError>
-    ensures { IfOk result (λ table. windows_of table.records (Some (0 ∷ 1 ∷ [])) ≡ window_of_both ∷ []) }
+fn table_of_two(rt: &impl Abort, alloc: Global) -> Cedt
+    ensures { windows_of result.records (Some (0 ∷ 1 ∷ [])) ≡ window_of_both ∷ [] }
 {
-    let targets = vec![in alloc; 0, 1]?;
+    let targets = Vec::from_slice(alloc, &[0, 1]).expect(rt, "memory");
     let window = Cfmws::new(BASE, BASE, 1, false, 0, 0x000e, 0, targets);
     let other = Chbs { uid: 1, ..BRIDGE };
-    let records = vec![in alloc;
-        Record::Chbs(BRIDGE),
-        Record::Chbs(other),
-        Record::Cfmws(window),
-    ]?;
-    let table = Cedt::new(HEAD, records);
-    Ok(table)
+    let mut records = Vec::new(alloc);
+    records.push(Record::Chbs(BRIDGE)).expect(rt, "memory");
+    records.push(Record::Chbs(other)).expect(rt, "memory");
+    records.push(Record::Cfmws(window)).expect(rt, "memory");
+    Cedt::new(HEAD, records)
 }
 
 fn windows_of_two(rt: &impl Abort, alloc: Global) -> Vec<Window>
     ensures { result.items ≡ window_of_both ∷ [] }
 {
-    let table = table_of_two(alloc).expect(rt, "memory");
-    windows(alloc, &table, Some(&[0, 1])).expect(rt, "memory")
+    let table = table_of_two(rt, alloc);
+    let windows = windows(alloc, &table, Some(&[0, 1])).expect(rt, "memory");
+    drop(table);
+    windows
 }
 
 /// The region of both endpoints, 256 MiB of each.
@@ -102,8 +102,11 @@ fn is_dealt(weave: &Weave, h: u64, slot: u32, offset: u64) -> bool
 /// Chunks of 256 bytes take turns between the two slots.
 #[test]
 fn weaves(rt: HostRuntime) {
-    let windows = windows_of_two(&rt, rt.alloc());
-    let found = region_of_two(&rt, rt.alloc());
+    let alloc = rt.alloc();
+    let windows = windows_of_two(&rt, alloc);
+    let found = region_of_two(&rt, alloc);
     let weave = weave_of_two(&found, &windows[0]);
     assert!(rt; is_dealt(&weave, 0x1_0000_0100, 1, 0) && is_dealt(&weave, 0x1_0000_0200, 0, 0x100));
+    drop(found);
+    drop(windows);
 }

@@ -2,4 +2,13 @@ use Rattle.std.proofs.Common.{refl}
 use Rattle.cxl_device_calls.proofs.moves.table_of_one.Goals as goal
 
 pub returns : goal.returns
-returns c = rw (c.new-table.ensures, c.in_ok-records.ensures.items, c.new-window.ensures, c.in_ok-targets.ensures.items) refl
+returns g c = rw (
+  c.new.ensures,
+  c.push-2.ensures.items,
+  c.expect-2.ensures,
+  c.push.ensures.items,
+  c.expect.ensures,
+  c.new-records.ensures.items,
+  c.new-window.ensures,
+  rw c.expect-targets.ensures at c.from_slice.ensures.items,
+) refl
