@@ -18,7 +18,7 @@ use cxl_machine::{OpenFault, answers_are_told, live_regions_stay};
 use cxl_media::{MapMedia, Media, Roll, SimMedia};
 use cxl_model::Step;
 use cxl_reply::Reply;
-use cxl_script::{BadLine, Command, LineFault, asked_commands_are_ranged, read_command};
+use cxl_script::{Command, LineFault, asked_commands_are_ranged, read_command};
 use cxl_session::Session;
 use cxl_text::put_reply;
 use cxl_topo::Topo;
@@ -55,8 +55,11 @@ pub(crate) fn opened<R: Regs, M: Roll>(
 }
 
 /// Appends what a line that asks for no command is answered.
-fn refuse(rt: &impl Abort, session: &Session, fault: BadLine, text: &mut Vec<u8>) {
-    let reply = Reply::BadLine(fault);
+fn refuse(rt: &impl Abort, session: &Session, fault: LineFault, text: &mut Vec<u8>) {
+    let reply = match fault {
+        LineFault::Bad(fault) => Reply::BadLine(fault),
+        LineFault::Memory => panic!(rt; "memory"),
+    };
     put_reply(&reply, session.topo(), text).expect(rt, "memory");
     drop(reply);
 }
@@ -103,8 +106,7 @@ fn act_on_line<R: Regs, M: Roll>(
             act(rt, alloc, session, &command, text, regs, media);
             drop(command);
         }
-        Err(LineFault::Bad(fault)) => refuse(rt, session, fault, text),
-        Err(LineFault::Memory) => panic!(rt; "memory"),
+        Err(fault) => refuse(rt, session, fault, text),
     }
 }
 
@@ -188,7 +190,11 @@ fn comes_to_over<M: Roll>(rt: &impl Abort, alloc: Global, script: &Script, media
 pub(crate) fn comes_to_by_commands(rt: &impl Abort, alloc: Global, script: &Script) -> bool {
     let mut sim = SimMedia::new(alloc);
     let mut map = MapMedia::new(alloc);
-    comes_to_over(rt, alloc, script, &mut sim) && comes_to_over(rt, alloc, script, &mut map)
+    let comes = comes_to_over(rt, alloc, script, &mut sim)
+        && comes_to_over(rt, alloc, script, &mut map);
+    drop(sim);
+    drop(map);
+    comes
 }
 
 // ---- kept routes
@@ -232,7 +238,15 @@ struct Keeping {
     line: &'static str,
     live: usize,
     address: u64,
-    route: Option<Route>,
+    route: Way,
+}
+
+/// One of the routes below, or none.
+enum Way {
+    Nowhere,
+    ToFirst,
+    ToSecond,
+    ToSecondBehind,
 }
 
 const NO_STEP: Step = Step {
@@ -286,62 +300,72 @@ const TO_SECOND_BEHIND: Route = Route {
     dpa: 0x1000_0000,
 };
 
+/// The route that a row names.
+fn route_of(way: &Way) -> Option<Route> {
+    match way {
+        Way::Nowhere => None,
+        Way::ToFirst => Some(TO_FIRST),
+        Way::ToSecond => Some(TO_SECOND),
+        Way::ToSecondBehind => Some(TO_SECOND_BEHIND),
+    }
+}
+
 const KEEPING: [Keeping; 9] = [
     Keeping {
         line: "create r0 ram 0x20000000 e0 e1",
         live: 1,
         address: 0x1_0000_0100,
-        route: Some(TO_SECOND),
+        route: Way::ToSecond,
     },
     // A region that is being made keeps no route, though its address leads to an endpoint before the last write.
     Keeping {
         line: "begin create b ram 0x20000000 e0 e1",
         live: 1,
         address: 0x1_2000_0100,
-        route: None,
+        route: Way::Nowhere,
     },
     Keeping {
         line: "step 24",
         live: 1,
         address: 0x1_2000_0100,
-        route: None,
+        route: Way::Nowhere,
     },
     Keeping {
         line: "step 8",
         live: 2,
         address: 0x1_2000_0100,
-        route: Some(TO_SECOND_BEHIND),
+        route: Way::ToSecondBehind,
     },
     Keeping {
         line: "store 0x120000100 11",
         live: 2,
         address: 0x1_0000_0000,
-        route: Some(TO_FIRST),
+        route: Way::ToFirst,
     },
     // Nor does one that is being ended, until that is undone.
     Keeping {
         line: "begin destroy b",
         live: 1,
         address: 0x1_2000_0000,
-        route: None,
+        route: Way::Nowhere,
     },
     Keeping {
         line: "abort",
         live: 2,
         address: 0x1_2000_0100,
-        route: Some(TO_SECOND_BEHIND),
+        route: Way::ToSecondBehind,
     },
     Keeping {
         line: "destroy b",
         live: 1,
         address: 0x1_0000_0000,
-        route: Some(TO_FIRST),
+        route: Way::ToFirst,
     },
     Keeping {
         line: "destroy r0",
         live: 0,
         address: 0x1_0000_0100,
-        route: None,
+        route: Way::Nowhere,
     },
 ];
 
@@ -351,8 +375,14 @@ fn keeps(session: &Session, row: &Keeping) -> bool
 {
     session.live().len() == row.live
         && session.kept().len() == row.live
-        && kept_route(session, row.address) == row.route
-        && (row.route.is_none() || route_by_registers(session, row.address) == row.route)
+        && is_kept(session, row.address, route_of(&row.route))
+}
+
+/// Whether this route is kept for an address, and the registers lead to it, where it is one.
+fn is_kept(session: &Session, h: u64, route: Option<Route>) -> bool
+    requires { (m : Machine) × StandsFor session.now m × IsMachine m }
+{
+    kept_route(session, h) == route && (route.is_none() || route_by_registers(session, h) == route)
 }
 
 /// Checks the kept routes behind each line.
@@ -374,8 +404,13 @@ fn all_keep<R: Regs, M: Roll>(
 /// The same over both kinds of device memory.
 fn all_keep_over_each(rt: &impl Abort, alloc: Global, rows: &[Keeping]) {
     let mut regs = SimBus::new(alloc);
-    all_keep(rt, alloc, rows, &mut regs, &mut SimMedia::new(alloc));
-    all_keep(rt, alloc, rows, &mut regs, &mut MapMedia::new(alloc));
+    let mut sim = SimMedia::new(alloc);
+    let mut map = MapMedia::new(alloc);
+    all_keep(rt, alloc, rows, &mut regs, &mut sim);
+    all_keep(rt, alloc, rows, &mut regs, &mut map);
+    drop(regs);
+    drop(sim);
+    drop(map);
 }
 
 #[test]

@@ -35,7 +35,9 @@ fn is_checked(rt: &impl Abort, alloc: Global, row: &Row) -> bool {
     let table = bytes(rt, alloc, row.table);
     let mut files = files_of(rt, alloc, table, row.topology, image, row.fail);
     let words = words_of(rt, alloc, "check table topology image");
-    ends(rt, alloc, &words, &mut files, row.code, row.text.as_bytes())
+    let right = ends(rt, alloc, &words, &mut files, row.code, row.text.as_bytes());
+    drop(files);
+    right
 }
 
 /// Checks each row.

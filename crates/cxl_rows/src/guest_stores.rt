@@ -22,12 +22,12 @@ pub(crate) fn windows_of(rt: &impl Abort, alloc: Global, digits: &str, uids: &[u
 {
     let table = bytes(rt, alloc, digits);
     assert!(rt; table.len() <= 1_048_576);
-    match windows(
-        alloc,
-        &read(alloc, &table).expect(rt, "a table"),
-        Some(uids),
-    ) {
-        Ok(windows) => windows,
+    let table = read(alloc, &table).expect(rt, "a table");
+    match windows(alloc, &table, Some(uids)) {
+        Ok(windows) => {
+            drop(table);
+            windows
+        }
         Err(_) => panic!(rt; "memory"),
     }
 }

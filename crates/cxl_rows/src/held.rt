@@ -5,6 +5,7 @@ ghost use Rattle.cxl_held.specs.Sessions.{IsKept};
 use crate::host_files::TWO_ENDPOINTS;
 use crate::rows::{ROOM, bytes, files_of, sink_of};
 use crate::tables::TWO_BRIDGES;
+use cxl_bus::Sent;
 use cxl_held::Held;
 use cxl_io::{MemFetch, MemSink, MemSource};
 use cxl_shell::Status;
@@ -88,6 +89,13 @@ slot 1 e1 0x0\n";
 const LED_DOWN: &str =
     "down 0x100000100 region auto0 slot 1 position 1 via hb1:0:0 endpoint e1 dpa 0x0\n";
 
+/// Checks that these are the words of a create.
+fn are_of_a_create(rt: &impl Abort, words: &[Sent]) {
+    assert!(rt; words.len() == 32, "eight words a decoder");
+    assert!(rt; words[0].off == 0x10, "a base comes first");
+    assert!(rt; words[1].off == 0x14 && words[1].value == 1, "it is 4 GiB");
+}
+
 /// The words of a create, as the session tells them, and none of a load.
 fn tells_its_words(rt: &impl Abort, alloc: Global, held: &mut Held, out: &mut MemSink)
     requires { IsKept held.old }
@@ -96,12 +104,7 @@ fn tells_its_words(rt: &impl Abort, alloc: Global, held: &mut Held, out: &mut Me
     assert!(rt; held.words().len() == 2, "a word lets each endpoint decode");
     act(rt, alloc, held, CREATE, 0, out);
     assert!(rt; out.bytes() == CREATED.as_bytes(), "the reply");
-    assert!(rt; held.words().len() == 32, "eight words a decoder");
-    assert!(rt; held.words()[0].off == 0x10, "a base comes first");
-    assert!(rt;
-        held.words()[1].off == 0x14 && held.words()[1].value == 1,
-        "it is 4 GiB"
-    );
+    are_of_a_create(rt, held.words());
     act(rt, alloc, held, "load 0x100000000 1\n", 0, out);
     assert!(rt; held.words().is_empty(), "a load sends no word");
 }

@@ -46,15 +46,11 @@ fn table(rt: &impl Abort, alloc: Global) -> Vec<u8> {
 fn topology(rt: &impl Abort, alloc: Global) -> String {
     let mut text = String::new(alloc);
     for n in 0..BRIDGES {
-        let bridge = format!(in alloc;
-            "[[bridge]]\nname = 'b{n}'\nuid = {n}\npassthrough = true\n"
+        let nodes = format!(in alloc;
+            "[[bridge]]\nname = 'b{n}'\nuid = {n}\npassthrough = true\n\
+            [[endpoint]]\nname = 'e{n}'\nparent = 'b{n}'\nport = 0\nram = 0xa0000000\ndecoders = 10\n"
         );
-        text.push_str(&bridge.expect(rt, "memory"))
-            .expect(rt, "memory");
-        let endpoint = format!(in alloc;
-            "[[endpoint]]\nname = 'e{n}'\nparent = 'b{n}'\nport = 0\nram = 0xa0000000\ndecoders = 10\n"
-        );
-        text.push_str(&endpoint.expect(rt, "memory"))
+        text.push_str(&nodes.expect(rt, "memory"))
             .expect(rt, "memory");
     }
     text
@@ -80,6 +76,17 @@ fn image(rt: &impl Abort, alloc: Global, regions: u16) -> Vec<u8> {
     image
 }
 
+/// Whether an empty script over an image with so many regions ends so.
+fn opens(rt: &impl Abort, alloc: Global, regions: u16, code: u8, text: &str) -> bool {
+    let topology = topology(rt, alloc);
+    let image = image(rt, alloc, regions);
+    let mut files = files_of(rt, alloc, table(rt, alloc), &topology, image, 0);
+    let words = words_of(rt, alloc, "run table topology image");
+    let right = ends(rt, alloc, &words, &mut files, code, text.as_bytes());
+    drop(files);
+    right
+}
+
 /// A session opens on 256 regions, and on no more.
 #[test]
 fn openings(rt: HostRuntime) {
@@ -87,15 +94,6 @@ fn openings(rt: HostRuntime) {
         ("as many regions as may live", 256, 0, ""),
         ("one region more", 257, 8, "regions full\n"),
     ] {
-        let alloc = rt.alloc();
-        let topology = topology(&rt, alloc);
-        let image = image(&rt, alloc, regions);
-        let mut files = files_of(&rt, alloc, table(&rt, alloc), &topology, image, 0);
-        let words = words_of(&rt, alloc, "run table topology image");
-        row_passes(
-            &rt,
-            name,
-            ends(&rt, alloc, &words, &mut files, code, text.as_bytes()),
-        );
+        row_passes(&rt, name, opens(&rt, rt.alloc(), regions, code, text));
     }
 }

@@ -325,16 +325,9 @@ const ABSENT_AND_LARGE_FILES: &[Row] = &[
 fn no_words(rt: HostRuntime) {
     let alloc = rt.alloc();
     let mut files = MemFetch::new(Vec::new(alloc), Vec::new(alloc));
-    assert!(rt;
-        ends(
-            &rt,
-            alloc,
-            &[],
-            &mut files,
-            Status::Usage.code(),
-            b"usage\n"
-        )
-    );
+    let code = Status::Usage.code();
+    assert!(rt; ends(&rt, alloc, &[], &mut files, code, b"usage\n"));
+    drop(files);
 }
 
 /// A file that cannot be read.
@@ -344,17 +337,10 @@ fn unread_file(rt: HostRuntime) {
     let words = words_of(&rt, alloc, "route table 0x100000000");
     let table = bytes(&rt, alloc, TWO_BRIDGES);
     let mut files = files_of(&rt, alloc, table, "", Vec::new(alloc), 1);
+    let code = Status::FetchFault.code();
     let text = b"error: cannot read table\n";
-    assert!(rt;
-        ends(
-            &rt,
-            alloc,
-            &words,
-            &mut files,
-            Status::FetchFault.code(),
-            text
-        )
-    );
+    assert!(rt; ends(&rt, alloc, &words, &mut files, code, text));
+    drop(files);
 }
 
 #[test]
@@ -390,7 +376,10 @@ fn fails_behind(rt: &impl Abort, alloc: Global, row: &SinkRow) -> bool {
     let mut files = table_file(rt, alloc, bytes(rt, alloc, TWO_BRIDGES));
     let mut sink = sink_of(rt, alloc, row.room, row.fail);
     let code = code_of_run(alloc, &words, &mut files, &mut sink);
-    code == 6 && sink.bytes() == row.text.as_bytes()
+    let told = sink.bytes() == row.text.as_bytes();
+    drop(files);
+    drop(sink);
+    code == 6 && told
 }
 
 #[test]
@@ -444,7 +433,11 @@ fn writes_so_many(rt: &impl Abort, alloc: Global, fail: u64, code: u8, count: us
     let table = repeated(rt, alloc, HEADER_OF_OTHERS, "04000400", 5_000);
     let mut files = table_file(rt, alloc, table);
     let mut sink = sink_of(rt, alloc, ROOM, fail);
-    code_of_run(alloc, &words, &mut files, &mut sink) == code && sink.bytes().len() == count
+    let ended = code_of_run(alloc, &words, &mut files, &mut sink);
+    let written = sink.bytes().len();
+    drop(files);
+    drop(sink);
+    ended == code && written == count
 }
 
 /// The list goes out in two blocks. Where the second write fails, the first 3,856 lines are written, which are the
@@ -463,7 +456,10 @@ fn written_of_whole_block(rt: &impl Abort, alloc: Global) -> usize {
     let mut files = table_file(rt, alloc, table);
     let mut sink = sink_of(rt, alloc, ROOM, 2);
     code_of_run(alloc, &words, &mut files, &mut sink);
-    sink.bytes().len()
+    let written = sink.bytes().len();
+    drop(files);
+    drop(sink);
+    written
 }
 
 /// A block that has 65,536 bytes goes out as it is.
@@ -478,7 +474,10 @@ fn asks_for(rt: &impl Abort, alloc: Global, line: &str, name: &str) -> bool {
     let mut files = table_file(rt, alloc, bytes(rt, alloc, TWO_BRIDGES));
     let mut sink = sink_of(rt, alloc, ROOM, 0);
     code_of_run(alloc, &words, &mut files, &mut sink);
-    is_only(files.asked(), name)
+    let only = is_only(files.asked(), name);
+    drop(files);
+    drop(sink);
+    only
 }
 
 /// Whether this name is asked for, and no other.

@@ -122,7 +122,9 @@ fn is_planned(rt: &impl Abort, alloc: Global, row: &Row, changes: &[Change], fai
     let mut files = files_of(rt, alloc, table, row.topology, Vec::new(alloc), fail);
     let mut words = words_of(rt, alloc, "plan table topology");
     put_word(rt, alloc, &mut words, row.line);
-    ends(rt, alloc, &words, &mut files, row.code, row.text.as_bytes())
+    let right = ends(rt, alloc, &words, &mut files, row.code, row.text.as_bytes());
+    drop(files);
+    right
 }
 
 fn are_planned(rt: &(impl Abort + AllocGlobal), rows: &[Row]) {
@@ -298,6 +300,12 @@ const WINDOWS_WITHOUT_A_PLAN: &[Row] = &[
 #[test]
 fn picked_endpoints(rt: HostRuntime) {
     are_planned(&rt, PICKED);
+    no_endpoints_are_picked(&rt);
+}
+
+/// Two functions name fewer texts each, and a proof grows with the square of their number.
+fn no_endpoints_are_picked(rt: &(impl Abort + AllocGlobal)) {
+    are_planned(rt, NONE_PICKED);
 }
 
 const PICKED: &[Row] = &[
@@ -341,7 +349,9 @@ const PICKED: &[Row] = &[
         code: 0,
         text: PICKED_BEHIND,
     },
-    // Why none are picked.
+];
+
+const NONE_PICKED: &[Row] = &[
     Row {
         name: "three ways of two bridges",
         table: SERVER,

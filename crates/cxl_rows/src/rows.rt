@@ -146,6 +146,8 @@ pub(crate) fn code_of_run(
         &mut regs,
         &mut media,
     );
+    drop(script);
+    drop(regs);
     drop(media);
     status.code()
 }
@@ -160,7 +162,10 @@ pub(crate) fn ends(
     bytes: &[u8],
 ) -> bool {
     let mut sink = sink_of(rt, alloc, ROOM, 0);
-    code_of_run(alloc, words, files, &mut sink) == code && sink.bytes() == bytes
+    let ended = code_of_run(alloc, words, files, &mut sink);
+    let right = ended == code && sink.bytes() == bytes;
+    drop(sink);
+    right
 }
 
 /// Whether the words of a line end so over a table.

@@ -79,6 +79,16 @@ fn comes_to<M: Roll>(rt: &impl Abort, alloc: Global, script: &Script, media: &mu
     status.code() == script.code && told
 }
 
+/// The same over both kinds of device memory.
+fn comes_to_over_each(rt: &impl Abort, alloc: Global, script: &Script) -> bool {
+    let mut sim = SimMedia::new(alloc);
+    let mut map = MapMedia::new(alloc);
+    let comes = comes_to(rt, alloc, script, &mut sim) && comes_to(rt, alloc, script, &mut map);
+    drop(sim);
+    drop(map);
+    comes
+}
+
 /// Checks each script, as a run and command by command.
 pub(crate) fn come_to(rt: &(impl Abort + AllocGlobal), scripts: &[Script]) {
     for script in scripts {
@@ -87,10 +97,7 @@ pub(crate) fn come_to(rt: &(impl Abort + AllocGlobal), scripts: &[Script]) {
             script.name,
             comes_to_by_commands(rt, rt.alloc(), script),
         );
-        let mut sim = SimMedia::new(rt.alloc());
-        row_passes(rt, script.name, comes_to(rt, rt.alloc(), script, &mut sim));
-        let mut map = MapMedia::new(rt.alloc());
-        row_passes(rt, script.name, comes_to(rt, rt.alloc(), script, &mut map));
+        row_passes(rt, script.name, comes_to_over_each(rt, rt.alloc(), script));
     }
 }
 
