@@ -8,6 +8,7 @@ ghost use Rattle.cxl_model.specs.System.{IsSystem, system_of, bridge_uids};
 ghost use Rattle.cxl_window.specs.Windows.{windows_of, AreMadeWith};
 ghost use Rattle.cxl_inputs.specs.File.{AsksForSome};
 ghost use Rattle.cxl_inputs.specs.Host.{AreRead, HasNoHost};
+ghost use Rattle.cxl_inputs.specs.Image.{IsImageOf, HasNoImage};
 ghost use Rattle.cxl_inputs.specs.Stop.{IsStop};
 
 use crate::both::fetch_both;
@@ -96,7 +97,34 @@ pub fn fetch_host<F: Fetch>(
     ensures stays { (F.state files.new).told ≡ (F.state files.old).told }
 {
     let (table, topo) = fetch_both(alloc, cedt, topo, files)?;
-    let image = fetch_image(alloc, image, &topo, files)?;
-    let host = OwnedHost::of_text(alloc, &table, topo, image)?;
-    Ok(host)
+    let host = fetch_over(alloc, &table, topo, image, files);
+    drop(table);
+    host
+}
+
+/// The host of a table and a topology, and of an image that is asked for. It stops where the image has no reading.
+fn fetch_over<F: Fetch>(
+    alloc: Global,
+    table: &TableText,
+    topo: Topo,
+    image: &str,
+    files: &mut F,
+) -> Result<OwnedHost, Stop>
+    ensures read { IfOk result (λ host. (host.topo ≡ topo)
+        × IsImageOf ((F.state files.old).told image.now) host.topo.nodes host.image
+        × (host.windows.items ≡ windows_of table.now.records (Some (bridge_uids host.topo.nodes)))) }
+    ensures system { IfOk result (λ host. IsSystem (system_of host.image host.topo host.windows.items)) }
+    ensures asked { OnOk result (AsksFor (F.state files.old) (F.state files.new) (image.now ∷ [])) }
+    ensures stops { IfErr result (IsStop (HasNoImage [] image.now topo.nodes (F.state files.old) (F.state files.new))
+        (AsksForSome (image.now ∷ []) (F.state files.old) (F.state files.new))) }
+    ensures counts { (F.state files.old).faults ≤ (F.state files.new).faults }
+    ensures stays { (F.state files.new).told ≡ (F.state files.old).told }
+{
+    match fetch_image(alloc, image, &topo, files) {
+        Ok(image) => Ok(OwnedHost::of_text(alloc, table, topo, image)?),
+        Err(stop) => {
+            drop(topo);
+            Err(stop)
+        }
+    }
 }

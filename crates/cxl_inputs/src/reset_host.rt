@@ -42,8 +42,9 @@ pub fn fetch_reset_host<F: Fetch>(
     ensures stays { (F.state files.new).told ≡ (F.state files.old).told }
 {
     let (table, topo) = fetch_both(alloc, cedt, topo, files)?;
-    let host = after_reset(alloc, &table, topo)?;
-    Ok(host)
+    let host = after_reset(alloc, &table, topo);
+    drop(table);
+    Ok(host?)
 }
 
 /// The host with this topology, its image after reset, and the windows of this table.
