@@ -1,7 +1,8 @@
 """libcxlplan by ctypes: one function a call of the library, which answers (status, bytes).
 
-The library is the one that the variable CXLPLAN_LIBRARY names, or else the one that ./prove --library built in the checkout around
-this file, or the one that ./install put below the prefix that this file was installed under, or the system's. Bytes go in as
+The library is the one that the variable CXLPLAN_LIBRARY names, or else the one beside this file, as a wheel has it, or the one that
+./prove --library built in the checkout around this file, or the one that ./install put below the prefix that this file was installed
+under, or the system's. Bytes go in as
 bytes, bytearray or memoryview, text as str, which is passed as UTF-8. Where the room is too small for an answer (status 6) the call
 is made again with a larger one. The calls are proved (cxlplan.h says what of them); this module is not."""
 import ctypes
@@ -49,7 +50,7 @@ def places():
     top = os.path.dirname(os.path.dirname(_HERE))
     # of PREFIX/share/cxlplan/python/cxlplan the library is in PREFIX/lib
     prefix = os.path.dirname(os.path.dirname(top))
-    return [f"{top}/crates/cxl_c/out/{_NAME}", f"{prefix}/lib/{_NAME}", _NAME]
+    return [f"{_HERE}/{_NAME}", f"{top}/crates/cxl_c/out/{_NAME}", f"{prefix}/lib/{_NAME}", _NAME]
 
 
 def _load():
