@@ -2,19 +2,23 @@
 # Measures what the gate takes for each crate, from nothing: its proof, that of its tests, and its must-fail edits, in processor
 # seconds of the prover.
 #
-# bench/gate.sh [CRATE..]    the whole gate, or, with a kit whose `rt ci` takes names, these crates and those below them
+# bench/gate.sh              the gate from nothing: proofs, tests, and the edits of what changed
+# bench/gate.sh --kept       the gate, with what this machine keeps of earlier runs
+# bench/gate.sh --whole      every proof and every edit
 #
-# It runs `rt ci` on a copy of the repository, whose last lines it shows, and adds up what its provers take, once a second: so
-# what a prover takes in its last second may be missing, and what two crates share, as a library that is read, counts for both.
-# The gate runs as many provers at once as there are processors, so its wall time is shorter.
+# It runs `./prove --all` on a copy of the repository, whose last lines it shows, and adds up what its provers take, once a second:
+# so what a prover takes in its last second may be missing, and what two crates share, as a library that is read, counts for both.
+# The gate runs as many provers at once as there are processors, so its wall time is shorter. "All processes" is what the run and
+# all that it started took of the processors, as the system counts it.
 set -euo pipefail
 source "$(dirname "${BASH_SOURCE[0]}")/common.sh"
-git -C "$top" ls-files -z -- crates crates.txt HANDLES | (cd "$top" && xargs -0 cp --parents -t "$work")
+git -C "$top" ls-files -z -- crates crates.txt HANDLES prove .ci must-fail.sums | (cd "$top" && xargs -0 cp --parents -t "$work")
 cd "$work"
 python3 - "$@" <<'PYTHON'
 """Runs the gate, and adds up the processor time of the provers below it by crate and by what they prove."""
 import os
 import re
+import resource
 import subprocess
 import sys
 import time
@@ -62,11 +66,11 @@ def what(process):
 
 def main():
     start = time.time()
+    words = {"": ["--anew"], "--kept": [], "--whole": ["--whole"]}.get(" ".join(sys.argv[1:]))
+    if words is None:
+        sys.exit("usage: bench/gate.sh [--kept | --whole]")
     with open("log", "wb") as log:
-        # a kit that keeps what passed is told to take nothing of it; the other takes nothing, and no names
-        keeps = "--anew" in subprocess.run(["rt", "help"], capture_output=True, text=True, check=False).stderr
-        words = ["--anew", *sys.argv[1:]] if keeps else []
-        gate = subprocess.Popen(["rt", "ci", *words], stdin=subprocess.DEVNULL, stdout=log, stderr=subprocess.STDOUT)
+        gate = subprocess.Popen(["./prove", "--all", *words], stdin=subprocess.DEVNULL, stdout=log, stderr=subprocess.STDOUT)
     known, taken = {}, {}
     while gate.poll() is None:
         found = parents()
@@ -85,9 +89,10 @@ def main():
     for crate in sorted(table, key=lambda it: -sum(table[it].values())):
         print(f"| `{crate}` | " + " | ".join(f"{table[crate][kind]:.0f}" for kind in KINDS) + " |")
     print("| all | " + " | ".join(f"{sum(it[kind] for it in table.values()):.0f}" for kind in KINDS) + " |")
-    print(f"\n{(time.time() - start) / 60:.0f} minutes of wall time.")
+    used = resource.getrusage(resource.RUSAGE_CHILDREN)
+    print(f"\n{(time.time() - start) / 60:.0f} minutes of wall time. All processes: {(used.ru_utime + used.ru_stime) / 60:.0f} processor minutes.")
     with open("log", encoding="utf-8", errors="replace") as log:
-        print("".join(log.readlines()[-2:]), end="")
+        print("".join(log.readlines()[-4:]), end="")
     return gate.returncode
 
 
