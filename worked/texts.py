@@ -193,7 +193,7 @@ class Node(NamedTuple):
     is_endpoint: bool
 
 
-PLAIN = re.compile(r'\s*(?:#[^\n]*)?(\[\[|\]\]|[\[\]{},=]|"[^"\\\n]*"|[A-Za-z0-9_-]+|\n|$|.)')
+PLAIN = re.compile(r"""\s*(?:#[^\n]*)?(\[\[|\]\]|[\[\]{},=]|"[^"\\\n]*"|'[^'\n]*'|[A-Za-z0-9_-]+|\n|$|.)""")
 
 
 class Toml:
@@ -243,7 +243,7 @@ class Toml:
             table: dict = {}
             self.several("}", lambda: self.pair(table))
             return table
-        if token[:1] == '"':
+        if token[:1] in ("'", '"'):
             return token[1:-1]
         if token in ("true", "false"):
             return token == "true"

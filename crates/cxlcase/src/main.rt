@@ -40,15 +40,12 @@ fn answer_all(rt: &HostRuntime) -> Option<()> {
     Some(())
 }
 
-/// The case of a line. Single spaces stand between its fields, which are in hexadecimal digits: the table, the topology, the
-/// image, the script, the numbers of the register calls that fail, with single spaces between them, and then each word.
+/// The case of a line. Single spaces stand between its fields, which are in hexadecimal digits: the table, the topology and the
+/// image, or `-` for one that is not there; the script; the numbers of the register calls that fail, with single spaces between
+/// them; and then each word.
 fn read_case(alloc: Global, line: &str) -> Option<Case> {
     let mut fields = line.split(' ');
-    let mut files = Vec::new(alloc);
-    for name in ["table", "topology", "image"] {
-        let name = String::from_str(alloc, name).ok()?;
-        files.push((name, field(alloc, &mut fields)?)).ok()?;
-    }
+    let files = files(alloc, &mut fields)?;
     let script = field(alloc, &mut fields)?;
     let fails = numbers(alloc, &field(alloc, &mut fields)?)?;
     Some(Case {
@@ -57,6 +54,19 @@ fn read_case(alloc: Global, line: &str) -> Option<Case> {
         regs: FailingBus::new(alloc, fails),
         words: words(alloc, fields)?,
     })
+}
+
+/// The files of the first three fields.
+fn files(alloc: Global, fields: &mut Split<'_, char>) -> Option<Vec<(String, Vec<u8>)>> {
+    let mut files = Vec::new(alloc);
+    for name in ["table", "topology", "image"] {
+        let digits = fields.next()?;
+        if digits != "-" {
+            let name = String::from_str(alloc, name).ok()?;
+            files.push((name, hex::decode(alloc, digits).ok()?)).ok()?;
+        }
+    }
+    Some(files)
 }
 
 /// The bytes of the next field.
