@@ -253,11 +253,8 @@ class Circle(Case):
     def test_plans(self):
         """Plans over each machine and example and each worked host, of each kind and number of ways that it takes."""
         hosts = [self.captured(machine)[:2] for machine in machines.MACHINES] + [FOUR]
-        for number, (table, topology) in enumerate({(table, topology) for table, topology, _ in worked.written()}):
+        for number, (table, topology) in enumerate({(table, topology) for table, topology, _ in worked.hosts()}):
             hosts.append([self.file(f"w{number}.cedt", table), self.file(f"w{number}.toml", topology)])
-        for number, (nodes, windows, _) in enumerate(worked.rows()):
-            hosts.append([self.file(f"{number}.cedt", worked.table_of(nodes, windows)),
-                          self.file(f"{number}.toml", worked.topology_of(nodes))])
         taken = set()
         for table, topology in hosts:
             for ways in (1, 2, 3, 4, 6, 8, 12, 16):
@@ -286,36 +283,26 @@ class Circle(Case):
         """The commands and the writes of a reply are those of the peer."""
         self.assertEqual((self.said(*host)[1], self.said("--words", *host)[1]), (peer.commands(*host), peer.words(*host)))
 
-    def test_written_images(self):
-        """Images that are written out, most of them Linux's: the same regions are found in what is made."""
-        count = 0
-        for table, topology, image in worked.written():
+    def test_worked_images(self):
+        """Images of the worked cases: the same regions are found in what is made; and where all of an image is regions, what is made is the
+        image, to the last bit."""
+        count = plain = 0
+        for table, topology, image in worked.hosts():
             host = [self.file("table", table), self.file("nodes", topology)]
             status, checked = cxlplan("check", *host, self.file("image", image))
             if status == 0 and checked:
                 count += 1
                 names = [node.name for node in peer.read_topology(host[1])]
                 shown = worked.shown(checked, image, names)
-                made = self.file("made", self.image(*host, shown))
+                made = self.image(*host, shown)
                 with self.subTest(checked):
-                    self.assertEqual(cxlplan("check", *host, made), (0, checked))
+                    self.assertEqual(cxlplan("check", *host, self.file("made", made)), (0, checked))
                     self.beside(*host, self.file("reply", shown))
-        self.assertGreater(count, 7)
-
-    def test_worked_images(self):
-        """Worked hosts with regions, all of them shown: the image is theirs to the last bit."""
-        count = 0
-        for nodes, windows, ranges in worked.rows():
-            image, names = worked.image_of(nodes, ranges), [f"n{number}" for number in range(len(nodes))]
-            host = [self.file("table", worked.table_of(nodes, windows)), self.file("nodes", worked.topology_of(nodes))]
-            status, checked = cxlplan("check", *host, self.file("image", image))
-            if status == 0 and checked:
-                count += 1
-                shown = worked.shown(checked, image, names)
-                with self.subTest(nodes=nodes, ranges=ranges):
-                    self.assertEqual(self.image(*host, shown), image)
-                    self.beside(*host, self.file("reply", shown))
-        self.assertGreater(count, 10)
+                    if worked.is_plain(image, len(names)):
+                        plain += 1
+                        self.assertEqual(made, image)
+        self.assertGreater(count, 20)
+        self.assertGreater(plain, 10)
 
 
 if __name__ == "__main__":

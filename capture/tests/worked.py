@@ -1,76 +1,36 @@
-"""The hosts of crates/cxl_rows and crates/cxl_hosts as files that cxlplan reads, and what it says of them."""
+"""The hosts of the worked cases, and what cxlplan says of them; and hosts as lists of numbers, as files that it reads."""
 
 import os
-import re
 import struct
+import sys
 
 import machines
 
-ROWS = [os.path.join(machines.TOP, "crates", crate, "src") for crate in ("cxl_rows", "cxl_hosts")]
+sys.path.insert(0, os.path.join(machines.TOP, "worked"))
+import cases  # noqa: E402 pylint: disable=wrong-import-position
 
-# ---- What their rows write in threes behind their own name: texts, or the names of texts.
-
-TEXT = r'"(?:[^"\\]|\\\n)*"|r#"[^#]*"#'
-PART = rf"({TEXT}|(?:[a-z_]+::)?[A-Z][A-Z0-9_]*)"
-FIELD = rf"(?:[a-z_]+:\s*)?{PART}"
-THREE = re.compile(rf"[({{]\s*(?:name:\s*)?(?:{TEXT}),\s*{FIELD},\s*{FIELD},\s*{FIELD},")
+# ---- The hosts of worked/.
 
 
-def threes():
-    """Each three texts that begin a row, behind its name."""
-    texts, found = {}, []
-    for file in sorted(os.path.join(folder, file) for folder in ROWS for file in os.listdir(folder)):
-        with open(file, encoding="utf-8") as opened:
-            texts[file] = re.sub(r"(?m)^use [^;]*;", "", opened.read())  # three imported names are no row
-    named = {file: dict(re.findall(rf"const ([A-Z0-9_]+): &str =\s*({TEXT});", text)) for file, text in texts.items()}
-    everywhere = {name: text for names in named.values() for name, text in names.items()}
-    for file, text in texts.items():
-        for row in THREE.findall(text):
-            names = [part.split("::")[-1] for part in row]
-            row = [named[file].get(name, everywhere.get(name, part)) for name, part in zip(names, row)]
-            if row not in found:
-                found.append(row)
-    return found
+def hosts():
+    """The table, the topology and the image of each host of a case that has all three, once."""
+    found = {tuple(case.files[name] for name in cases.FILES): None for path in cases.case_files([]) for case in cases.read_cases(path)
+             if len(case.files) == len(cases.FILES)}
+    return [host for host in found if host[0][:4] == b"CEDT" and host[2][:8] == b"CXLHDM01"]
 
 
-def written():
-    """The table and the topology of each host that is written out, and an image of it, or what else stands there."""
-    found = []
-    for table, topology, image in threes():
-        if digits(table)[:4] == b"CEDT" and topology.startswith('r#"'):
-            found.append((digits(table), topology[3:-2].encode(), digits(image)))
-    return found
+def is_plain(image, count):
+    """Whether each decoder of an image is as after reset, or is committed for the host alone and not locked."""
+    try:
+        blocks = blocks_of(image, count)
+    except (struct.error, IndexError):
+        return False
+    return all(not any(words) or words[4] & 0x1f00 == 0x1600 for block in blocks for words in block)
 
 
-def digits(text):
-    """The bytes of hexadecimal digits, where 0x6c is so many zero bytes; none of another text."""
-    words = re.sub(r"\\\n", "", text).strip('"').split()
-    if not all(re.fullmatch("0x[0-9a-f]+|(?:[0-9a-f]{2})+", word) for word in words):
-        return b""
-    return b"".join(bytes(int(word, 0)) if word[:2] == "0x" else bytes.fromhex(word) for word in words)
-
-
-# ---- Hosts as lists of numbers (crates/cxl_hosts/src/hosts.rt says what they mean).
-
-def rows():
-    """Each row's nodes, windows and committed decoders."""
-    found = [[numbers(part) for part in row] for row in threes()]
-    return [row for row in found if all(row) and is_host(*row)]
-
-
-def numbers(text):
-    """The lists between the commas; none where there is another text."""
-    items = [item.split() for item in re.sub(r"\\\n", " ", text).strip('"').split(",")]
-    if not all(re.fullmatch("0x[0-9a-f]+|0|[1-9][0-9]*", number) for item in items for number in item):
-        return None
-    return [[int(number, 0) for number in item] for item in items]
-
-
-def is_host(nodes, windows, ranges):
-    """Whether lists are as long as those of nodes, windows and decoders, and nodes stand in the order of a file."""
-    sizes = [len(node) for node in nodes]
-    return (sizes == sorted(sizes) and set(sizes) <= {1, 3, 5} and all(len(window) > 5 for window in windows)
-            and (ranges == [[]] or all(len(item) == 7 for item in ranges)))
+# ---- Hosts as lists of numbers. A node: its capability word, where that of a placeholder is a bridge's that forwards; the number of its
+# parent and the port there, where it has one; and its bytes of ram and of pmem, where it is an endpoint. A window: base, size, granularity
+# code, 1 for XOR arithmetic, restrictions, and the bridges that it lists.
 
 
 def name_of(number):
@@ -107,19 +67,6 @@ def table_of(nodes, windows):
     table = bytearray(b"CEDT" + struct.pack("<IBB", 36 + len(records), 1, 0) + bytes(26) + records)
     table[9] = -sum(table) % 256
     return bytes(table)
-
-
-def image_of(nodes, ranges):
-    image = b"CXLHDM01" + struct.pack("<I", len(nodes))
-    for number, node in enumerate(nodes):
-        decoders = [[0] * 8 for _ in range(1 if node[0] == 0x10 else COUNTS[node[0] & 15])]
-        for first, end, decoder, base, size, codes, tail in ranges if ranges != [[]] else []:
-            if first <= number < end:
-                decoders[decoder] = [base & 0xffffffff, base >> 32, size & 0xffffffff, size >> 32, codes | 0x1600,
-                                     tail & 0xffffffff, tail >> 32, 0]
-        image += struct.pack("<IIII", node[0], 2 if len(node) == 5 else 0, 0, 0)
-        image += b"".join(struct.pack("<8I", *words) for words in decoders)
-    return image
 
 
 def shown(checked, image, names):

@@ -83,21 +83,22 @@ def said(*words):
     return status, out.getvalue(), err.getvalue()
 
 
-def worked_hosts():
-    """The hosts of the worked rows: table, topology and image."""
-    for number, (nodes, windows, ranges) in enumerate(worked.rows()):
-        yield Host(worked.table_of(nodes, windows), worked.topology_of(nodes), worked.image_of(nodes, ranges), f"worked{number}")
-
-
 def written_hosts():
-    """The hosts that the worked rows write out with an image which the program reads; most of them are Linux's."""
-    for number, (table, topology, image) in enumerate(worked.written()):
+    """The hosts of the worked cases with an image that the program reads."""
+    for number, (table, topology, image) in enumerate(worked.hosts()):
         host = Host(table, topology, image, f"written{number}")
         try:
             host.breach  # pylint: disable=pointless-statement
         except CxlError:
             continue
         yield host
+
+
+def worked_hosts():
+    """Those of them whose decoders are all as after reset or committed."""
+    for host in written_hosts():
+        if worked.is_plain(host.image.data, len(host.nodes)):
+            yield host
 
 
 def every_image():

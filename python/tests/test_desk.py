@@ -7,7 +7,7 @@ import subprocess
 import sys
 import unittest
 
-from here import FOUR, LOST, PYTHON, Case, asks_the_engine, machines, said, worked_hosts, written_hosts
+from here import FOUR, LOST, PYTHON, Case, asks_the_engine, machines, said, written_hosts
 from cxlplan import Host
 from cxlplan.desk.whereis import payloads
 from cxlplan.editing import image_of, image_text
@@ -113,7 +113,7 @@ class Asked(Case):
         folders = [self.captured(machine) for machine in machines.MACHINES + machines.HOLES + machines.NEWER]
         written = list(written_hosts())
         self.assertGreater(len(written), 10)
-        folders += [self.folder(host.name, host) for host in [*worked_hosts(), *written]]
+        folders += [self.folder(host.name, host) for host in written]
         rules = set()
         for folder in folders:
             with self.subTest(folder):
