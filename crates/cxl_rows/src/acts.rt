@@ -5,15 +5,17 @@ ghost use Rattle.std.specs.Prelude.{IfOk};
 ghost use Rattle.cxl_machine.specs.Machine.{Machine};
 ghost use Rattle.cxl_machine.specs.Sound.{IsMachine};
 ghost use Rattle.cxl_script.specs.Grammar.{IsRanged};
+ghost use Rattle.cxl_model.specs.System.{bridge_uids};
 ghost use Rattle.cxl_session.specs.Standing.{Stands, StandsFor};
+ghost use Rattle.cxl_window.specs.Windows.{AreMadeWith};
 
-use crate::guest_stores::windows_of;
 use crate::host_files::ONE_FRAME;
-use crate::rows::{changed, row_passes};
+use crate::rows::{bytes, row_passes};
 use crate::scripts::Script;
 use crate::tables::TWO_BRIDGES;
 use cxl_bus::{FailingBus, Regs, SimBus};
-use cxl_image::{Image, read_image};
+use cxl_cedt::read;
+use cxl_image::Image;
 use cxl_machine::{OpenFault, answers_are_told, live_regions_stay};
 use cxl_media::{MapMedia, Media, Roll, SimMedia};
 use cxl_model::Step;
@@ -24,18 +26,26 @@ use cxl_text::put_reply;
 use cxl_topo::Topo;
 use cxl_topofile::read_topo;
 use cxl_walk::{Route, down};
+use cxl_window::{Window, windows};
 use std::alloc::Global;
 use std::process::Abort;
 
 // ---- a session and its commands
 
-/// The image that a script starts from: its own, or the one after reset.
-fn start_image(rt: &impl Abort, alloc: Global, script: &Script, topo: &Topo) -> Image {
-    if script.image.is_empty() {
-        return Image::new(alloc, topo).expect(rt, "memory");
+/// The windows of a table, which is written in digits, over these bridges.
+fn windows_of(rt: &impl Abort, alloc: Global, digits: &str, uids: &[u32]) -> Vec<Window>
+    ensures { AreMadeWith result.items uids.now }
+{
+    let table = bytes(rt, alloc, digits);
+    assert!(rt; table.len() <= 1_048_576);
+    let table = read(alloc, &table).expect(rt, "a table");
+    match windows(alloc, &table, Some(uids)) {
+        Ok(windows) => {
+            drop(table);
+            windows
+        }
+        Err(_) => panic!(rt; "memory"),
     }
-    let image = changed(rt, alloc, script.image, script.changes);
-    read_image(alloc, &image, topo).expect(rt, "an image")
 }
 
 /// Opens a session over a script's host.
@@ -50,7 +60,7 @@ pub(crate) fn opened<R: Regs, M: Roll>(
 {
     let topo = read_topo(alloc, script.topology.as_bytes()).expect(rt, "a topology");
     let windows = windows_of(rt, alloc, script.table, topo.uids());
-    let start = start_image(rt, alloc, script, &topo);
+    let start = Image::new(alloc, &topo).expect(rt, "memory");
     Session::open(alloc, topo, windows, start, regs, media)
 }
 
@@ -204,8 +214,6 @@ pub(crate) const HOST: Script = Script {
     name: "two bridges",
     table: TWO_BRIDGES,
     topology: ONE_FRAME,
-    image: "",
-    changes: &[],
     fails: &[],
     lines: "",
     code: 0,

@@ -1,4 +1,4 @@
-//! A worked row: its files, its words, and what the run comes to.
+//! The files and the words of a row, and a run over objects in memory.
 //!
 //! Here and in the other tests a large value is let go by a call of `drop`, which is proved once: what a function lets go by itself
 //! is part by part in its own proof.
@@ -33,43 +33,6 @@ fn put_digits(rt: &impl Abort, alloc: Global, bytes: &mut Vec<u8>, word: &str) {
             bytes.resize(len, 0).expect(rt, "memory");
         }
     }
-}
-
-/// A change of a file.
-#[derive(Drop)]
-pub(crate) enum Change {
-    /// It has so many bytes, and zeros behind its own.
-    Len(usize),
-    /// The byte at a place.
-    Byte(usize, u8),
-    /// The word that begins at a byte place.
-    Word(usize, u32),
-}
-
-/// The bytes that a text writes, with changes.
-pub(crate) fn changed(rt: &impl Abort, alloc: Global, text: &str, changes: &[Change]) -> Vec<u8> {
-    let mut file = bytes(rt, alloc, text);
-    put_changes(rt, &mut file, changes);
-    file
-}
-
-pub(crate) fn put_changes(rt: &impl Abort, file: &mut Vec<u8>, changes: &[Change]) {
-    for item in changes {
-        put_change(rt, file, item);
-    }
-}
-
-fn put_change(rt: &impl Abort, file: &mut Vec<u8>, item: &Change) {
-    match item {
-        Change::Len(len) => file.resize(*len, 0).expect(rt, "memory"),
-        Change::Byte(place, byte) => put(rt, file, *place, &[*byte]),
-        Change::Word(place, word) => put(rt, file, *place, &word.to_le_bytes()),
-    }
-}
-
-fn put(rt: &impl Abort, file: &mut [u8], place: usize, bytes: &[u8]) {
-    assert!(rt; place <= file.len() && bytes.len() <= file.len() - place);
-    file[place..place + bytes.len()].copy_from_slice(bytes);
 }
 
 /// The files of a host in memory, and the number of the fetch that fails, or 0.
@@ -152,53 +115,6 @@ pub(crate) fn code_of_run(
     status.code()
 }
 
-/// Whether the words end with this exit status and write these bytes.
-pub(crate) fn ends(
-    rt: &impl Abort,
-    alloc: Global,
-    words: &[String],
-    files: &mut MemFetch,
-    code: u8,
-    bytes: &[u8],
-) -> bool {
-    let mut sink = sink_of(rt, alloc, ROOM, 0);
-    let ended = code_of_run(alloc, words, files, &mut sink);
-    let right = ended == code && sink.bytes() == bytes;
-    drop(sink);
-    right
-}
-
-/// Whether the words of a line end so over a table.
-pub(crate) fn answers(
-    rt: &impl Abort,
-    alloc: Global,
-    line: &str,
-    table: Vec<u8>,
-    code: u8,
-    bytes: &[u8],
-) -> bool {
-    let words = words_of(rt, alloc, line);
-    let mut files = table_file(rt, alloc, table);
-    let right = ends(rt, alloc, &words, &mut files, code, bytes);
-    drop(files);
-    right
-}
-
-/// A name, a line, the digits of a table and changes of it, the exit status and the text.
-pub(crate) struct Row {
-    pub(crate) name: &'static str,
-    pub(crate) line: &'static str,
-    pub(crate) table: &'static str,
-    pub(crate) changes: &'static [Change],
-    pub(crate) code: u8,
-    pub(crate) text: &'static str,
-}
-
-fn is_answered(rt: &impl Abort, alloc: Global, row: &Row) -> bool {
-    let table = changed(rt, alloc, row.table, row.changes);
-    answers(rt, alloc, row.line, table, row.code, row.text.as_bytes())
-}
-
 /// Checks that the row of this name is right.
 pub(crate) fn row_passes(rt: &impl Abort, name: &str, right: bool) {
     assert!(rt; right, "row {name}");
@@ -207,11 +123,4 @@ pub(crate) fn row_passes(rt: &impl Abort, name: &str, right: bool) {
 /// The same of a row that is one of many alike, by its number.
 pub(crate) fn row_passes_at(rt: &impl Abort, name: &str, number: usize, right: bool) {
     assert!(rt; right, "row {name} {number}");
-}
-
-/// Checks each row.
-pub(crate) fn are_answered(rt: &(impl Abort + AllocGlobal), rows: &[Row]) {
-    for row in rows {
-        row_passes(rt, row.name, is_answered(rt, rt.alloc(), row));
-    }
 }

@@ -1,7 +1,7 @@
 //! How scripts end where the outside fails, of which no clause speaks: how far a script is read ahead, and that a reply is
-//! one write. And a region that is made and ended a thousand times.
+//! one write.
 
-use crate::host_files::{ONE_FRAME, TWO_ENDPOINTS};
+use crate::host_files::TWO_ENDPOINTS;
 use crate::rows::{ROOM, bytes, files_of, row_passes_at, sink_of, words_of};
 use crate::tables::TWO_BRIDGES;
 use cxl_bus::{FailingBus, Sent};
@@ -200,26 +200,4 @@ fn each_write_of_a_create_fails(rt: HostRuntime) {
             is_undone(&rt, rt.alloc(), call),
         );
     }
-}
-
-/// Whether the parts, a thousand times over one frame, are answered by as many of the others.
-fn are_answered(rt: &impl Abort, alloc: Global, parts: &[&[u8]], told: &[&[u8]]) -> bool {
-    let mut source = source_of(rt, alloc, parts, 1_000, 0);
-    let mut sink = sink_of(rt, alloc, ROOM, 0);
-    let mut regs = FailingBus::new(alloc, Vec::new(alloc));
-    let code = code_of_script(rt, alloc, ONE_FRAME, &mut source, &mut sink, &mut regs);
-    let text = repeated(rt, alloc, told, 1_000);
-    let right = sink.bytes() == text.as_slice();
-    drop(source);
-    drop(sink);
-    drop(regs);
-    code == 0 && right
-}
-
-/// A frame that a region leaves serves the next one.
-#[test]
-fn one_frame_serves_a_thousand_regions(rt: HostRuntime) {
-    let turn: [&[u8]; 3] = [CREATE, b"store 0x100000000 11\n", b"destroy r0\n"];
-    let told: [&[u8]; 3] = [CREATED, b"stored 1\n", b"destroyed r0\n"];
-    assert!(&rt; are_answered(&rt, rt.alloc(), &turn, &told));
 }

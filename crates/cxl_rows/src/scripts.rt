@@ -1,17 +1,10 @@
-//! What scripts come to: hosts as a table, a topology and, where one is named, an image; the lines of a script; the exit
-//! status, and all that is written. Each over a bus that fails at stated calls, and over both kinds of device memory.
+//! What scripts come to, as runs and command by command: each over a bus that fails at stated calls, and over both kinds of device
+//! memory. All that a run alone shows stands in `worked/`.
 
 use crate::acts::comes_to_by_commands;
-use crate::host_files::{
-    FIRST_REGION, FIVE_LEVELS, FOUR_ENDPOINTS, SIX_ENDPOINTS, SIX_ON_SIX, THREE_SMALL_ENDPOINTS,
-    TWELVE_ENDPOINTS, TWO_ENDPOINTS, TWO_ENDPOINTS_FORWARDED,
-};
-use crate::rows::Change::{self, Word};
-use crate::rows::{ROOM, bytes, changed, files_of, row_passes, sink_of, words_of};
-use crate::tables::{
-    ONE_BRIDGE, SERVER, SIX_BRIDGES, SIX_BRIDGES_XOR, THREE_BRIDGES, THREE_BRIDGES_SMALL,
-    TWO_BRIDGES, TWO_BRIDGES_XOR, TWO_WINDOWS,
-};
+use crate::host_files::{ONE_FRAME, TWO_ENDPOINTS};
+use crate::rows::{ROOM, bytes, files_of, row_passes, sink_of, words_of};
+use crate::tables::TWO_BRIDGES;
 use cxl_bus::FailingBus;
 use cxl_io::{MemFetch, MemSource};
 use cxl_media::{MapMedia, Roll, SimMedia};
@@ -19,34 +12,22 @@ use cxl_shell::run;
 use std::alloc::Global;
 use std::process::Abort;
 
-/// A name, a host with changes of its image, the calls of the bus that fail (the endpoints' blocks are enabled by the first of
-/// them), a script, and what it comes to.
+/// A name, a host after reset, the calls of the bus that fail (the endpoints' blocks are enabled by the first of them), a script,
+/// and what it comes to.
 pub(crate) struct Script {
     pub(crate) name: &'static str,
     pub(crate) table: &'static str,
     pub(crate) topology: &'static str,
-    pub(crate) image: &'static str,
-    pub(crate) changes: &'static [Change],
     pub(crate) fails: &'static [u64],
     pub(crate) lines: &'static str,
     pub(crate) code: u8,
     pub(crate) text: &'static str,
 }
 
-/// The words that run a script.
-fn words_of_run(rt: &impl Abort, alloc: Global, script: &Script) -> Vec<String> {
-    if script.image.is_empty() {
-        words_of(rt, alloc, "run table topology")
-    } else {
-        words_of(rt, alloc, "run table topology image")
-    }
-}
-
 /// The files of a script's host.
 fn files_of_host(rt: &impl Abort, alloc: Global, script: &Script) -> MemFetch {
     let table = bytes(rt, alloc, script.table);
-    let image = changed(rt, alloc, script.image, script.changes);
-    files_of(rt, alloc, table, script.topology, image, 0)
+    files_of(rt, alloc, table, script.topology, Vec::new(alloc), 0)
 }
 
 /// The lines of a script.
@@ -56,7 +37,7 @@ fn source_of(rt: &impl Abort, alloc: Global, script: &Script) -> MemSource {
 }
 
 fn comes_to<M: Roll>(rt: &impl Abort, alloc: Global, script: &Script, media: &mut M) -> bool {
-    let words = words_of_run(rt, alloc, script);
+    let words = words_of(rt, alloc, "run table topology");
     let mut files = files_of_host(rt, alloc, script);
     let mut source = source_of(rt, alloc, script);
     let mut sink = sink_of(rt, alloc, ROOM, 0);
@@ -102,333 +83,106 @@ pub(crate) fn come_to(rt: &(impl Abort + AllocGlobal), scripts: &[Script]) {
 }
 
 #[test]
-fn three_six_and_twelve_ways(rt: HostRuntime) {
-    come_to(&rt, THREE_SIX_AND_TWELVE_WAYS);
+fn scripts(rt: HostRuntime) {
+    come_to(&rt, SCRIPTS);
 }
 
-const THREE_SIX_AND_TWELVE_WAYS: &[Script] = &[
+const SCRIPTS: &[Script] = &[
     Script {
-        name: "three ways",
-        table: THREE_BRIDGES_SMALL,
-        topology: THREE_SMALL_ENDPOINTS,
-        image: "",
-        changes: &[],
-        fails: &[],
-        lines: "\
-create t ram 0x30000000 e0 e1 e2\n\
-down 0x12fffffff\n",
-        code: 0,
-        text: "\
-created t window 0 base 0x100000000 size 0x30000000 gran 256 ways 3\n\
-down 0x12fffffff region t slot 2 position 2 via hb2:0:0 endpoint e2 dpa 0xfffffff\n",
-    },
-    Script {
-        name: "six ways, two below each of three bridges",
-        table: THREE_BRIDGES,
-        topology: SIX_ENDPOINTS,
-        image: "",
-        changes: &[],
-        fails: &[],
-        lines: "\
-create t ram 0x60000000 e0 e1 e2 e3 e4 e5\n\
-down 0x100000400\n\
-down 0x100000600\n",
-        code: 0,
-        text: "\
-created t window 0 base 0x100000000 size 0x60000000 gran 256 ways 6\n\
-down 0x100000400 region t slot 4 position 1 via hb1:0:0 endpoint e2 dpa 0x0\n\
-down 0x100000600 region t slot 0 position 0 via hb0:0:0 endpoint e0 dpa 0x100\n",
-    },
-    Script {
-        name: "twelve ways, two below each of six bridges",
-        table: SIX_BRIDGES,
-        topology: TWELVE_ENDPOINTS,
-        image: "",
-        changes: &[],
-        fails: &[],
-        lines: "\
-create t ram 0xc0000000 e0 e1 e2 e3 e4 e5 e6 e7 e8 e9 e10 e11\n\
-down 0x100000b00\n",
-        code: 0,
-        text: "\
-created t window 0 base 0x100000000 size 0xc0000000 gran 256 ways 12\n\
-down 0x100000b00 region t slot 11 position 5 via hb5:0:1 endpoint e11 dpa 0x0\n",
-    },
-];
-
-#[test]
-fn ways_by_xor(rt: HostRuntime) {
-    come_to(&rt, WAYS_BY_XOR);
-}
-
-const WAYS_BY_XOR: &[Script] = &[
-    Script {
-        name: "two ways by XOR",
-        table: TWO_BRIDGES_XOR,
-        topology: TWO_ENDPOINTS,
-        image: "",
-        changes: &[],
-        fails: &[],
-        lines: "\
-create r0 ram 0x20000000 e0 e1\n\
-down 0x100004000\n\
-up e1 0x2000\n",
-        code: 0,
-        text: "\
-created r0 window 0 base 0x100000000 size 0x20000000 gran 256 ways 2\n\
-down 0x100004000 region r0 slot 1 position 1 via hb1:0:0 endpoint e1 dpa 0x2000\n\
-host 0x100004000 region r0\n",
-    },
-    Script {
-        name: "six ways by XOR",
-        table: SIX_BRIDGES_XOR,
-        topology: SIX_ON_SIX,
-        image: "",
-        changes: &[],
-        fails: &[],
-        lines: "\
-create t ram 0x60000000 e0 e1 e2 e3 e4 e5\n\
-down 0x100004200\n",
-        code: 0,
-        text: "\
-created t window 0 base 0x100000000 size 0x60000000 gran 256 ways 6\n\
-down 0x100004200 region t slot 1 position 1 via hb1:0:0 endpoint e1 dpa 0xb00\n",
-    },
-];
-
-#[test]
-fn ways_below_ports(rt: HostRuntime) {
-    come_to(&rt, WAYS_BELOW_PORTS);
-}
-
-const WAYS_BELOW_PORTS: &[Script] = &[
-    Script {
-        name: "sixteen ways below five levels of ports",
-        table: ONE_BRIDGE,
-        topology: FIVE_LEVELS,
-        image: "",
-        changes: &[],
-        fails: &[],
-        lines: "\
-create d ram 0x100000000 e0 e1 e2 e3 e4 e5 e6 e7 e8 e9 e10 e11 e12 e13 e14 e15\n\
-down 0x100000b00\n",
-        code: 0,
-        text: "\
-created d window 0 base 0x100000000 size 0x100000000 gran 256 ways 16\n\
-down 0x100000b00 region d slot 11 position 0 via hb0:0:0 s0:0:1 s2:0:1 s6:0:0 s13:0:1 endpoint e13 dpa 0x0\n",
-    },
-    Script {
-        name: "two ways below bridges that forward",
+        name: "bytes over two devices",
         table: TWO_BRIDGES,
-        topology: TWO_ENDPOINTS_FORWARDED,
-        image: "",
-        changes: &[],
+        topology: TWO_ENDPOINTS,
         fails: &[],
         lines: "\
 create r0 ram 0x20000000 e0 e1\n\
-down 0x100000100\n",
+store 0x1000000fe aabbccdd\n\
+load 0x1000000fe 4\n\
+load 0x100000100 2\n\
+down 0x100000100\n\
+load 0x1000000fc 2\n",
         code: 0,
         text: "\
 created r0 window 0 base 0x100000000 size 0x20000000 gran 256 ways 2\n\
-down 0x100000100 region r0 slot 1 position 1 via - endpoint e1 dpa 0x0\n",
+stored 4\n\
+bytes aabbccdd\n\
+bytes ccdd\n\
+down 0x100000100 region r0 slot 1 position 1 via hb1:0:0 endpoint e1 dpa 0x0\n\
+bytes 0000\n",
     },
     Script {
-        name: "four ways over a whole window of 1 TiB",
-        table: SERVER,
-        topology: FOUR_ENDPOINTS,
-        image: "",
-        changes: &[],
+        name: "moves and copies with one frame",
+        table: TWO_BRIDGES,
+        topology: ONE_FRAME,
         fails: &[],
         lines: "\
-create r0 ram 0x10000000000 e0 e1 e2 e3\n\
-down 0x10fffffffff\n\
+create r0 ram 0x20000000 e0 e1\n\
+create r1 ram 0x20000000 e0 e1\n\
+store 0x100000000 11\n\
+store 0x120000000 22\n\
+move r0 r1\n\
+load 0x120000000 1\n\
+load 0x100000000 1\n\
+copy r1 r0\n\
+copy r1 r1\n\
+move r2 r0\n\
+copy r0 r2\n",
+        code: 0,
+        text: "\
+created r0 window 0 base 0x100000000 size 0x20000000 gran 256 ways 2\n\
+created r1 window 0 base 0x120000000 size 0x20000000 gran 256 ways 2\n\
+stored 1\n\
+full need 1 free 0\n\
+moved r0 r1 pieces 1\n\
+bytes 11\n\
+bytes 00\n\
+full need 1 free 0\n\
+same region r1\n\
+no such region r2\n\
+no such region r2\n",
+    },
+    Script {
+        name: "a write fails, and so does the one that takes the first back",
+        table: TWO_BRIDGES,
+        topology: TWO_ENDPOINTS,
+        fails: &[5, 6],
+        lines: "\
+create r0 ram 0x20000000 e0 e1\n\
+abort\n",
+        code: 0,
+        text: "\
+bus fault pending r0 2 of 32\n\
+aborted r0\n",
+    },
+    Script {
+        name: "the blocks cannot be enabled",
+        table: TWO_BRIDGES,
+        topology: TWO_ENDPOINTS,
+        fails: &[1],
+        lines: "\
+create r0 ram 0x20000000 e0 e1\n",
+        code: 7,
+        text: "\
+error: bus fault\n",
+    },
+    Script {
+        name: "a read fails",
+        table: TWO_BRIDGES,
+        topology: TWO_ENDPOINTS,
+        fails: &[35],
+        lines: "\
+create r0 ram 0x20000000 e0 e1\n\
+show r0\n\
 show r0\n",
         code: 0,
         text: "\
-created r0 window 0 base 0x1000000000 size 0x10000000000 gran 256 ways 4\n\
-down 0x10fffffffff region r0 slot 3 position 1 via hb1:0:1 endpoint e3 dpa 0x3fffffffff\n\
-region r0 ram window 0 base 0x1000000000 size 0x10000000000 gran 256 ways 4\n\
-node hb0 0 00000000 00000010 00000000 00000100 00001611 00000100 00000000\n\
-node hb1 0 00000000 00000010 00000000 00000100 00001611 00000100 00000000\n\
-node e0 0 00000000 00000010 00000000 00000100 00001620 00000000 00000000\n\
-node e1 0 00000000 00000010 00000000 00000100 00001620 00000000 00000000\n\
-node e2 0 00000000 00000010 00000000 00000100 00001620 00000000 00000000\n\
-node e3 0 00000000 00000010 00000000 00000100 00001620 00000000 00000000\n\
-slot 0 e0 0x0\n\
-slot 1 e2 0x0\n\
-slot 2 e1 0x0\n\
-slot 3 e3 0x0\n",
-    },
-];
-
-#[test]
-fn firmware(rt: HostRuntime) {
-    come_to(&rt, &FIRMWARE);
-}
-
-const FIRMWARE: [Script; 4] = [
-    Script {
-        name: "locked decoders",
-        table: TWO_BRIDGES,
-        topology: TWO_ENDPOINTS,
-        image: FIRST_REGION,
-        changes: &[
-            Word(44, 0x1700),
-            Word(188, 0x1700),
-            Word(332, 0x1710),
-            Word(476, 0x1710),
-        ],
-        fails: &[],
-        lines: "\
-destroy auto0\n\
-load 0x100000000 1\n\
-create auto0 ram 0x20000000 e0 e1\n\
-create b ram 0x20000000 e0 e1\n\
-destroy auto0\n\
-destroy b\n",
-        code: 0,
-        text: "\
-locked hb0 0\n\
-bytes 00\n\
-name taken auto0\n\
-created b window 0 base 0x120000000 size 0x20000000 gran 256 ways 2\n\
-locked hb0 0\n\
-destroyed b\n",
-    },
-    Script {
-        name: "decoders that are not locked",
-        table: TWO_BRIDGES,
-        topology: TWO_ENDPOINTS,
-        image: FIRST_REGION,
-        changes: &[],
-        fails: &[],
-        lines: "\
-destroy auto0\n",
-        code: 0,
-        text: "\
-destroyed auto0\n",
-    },
-    Script {
-        name: "two regions of one way, each in its own decoders",
-        table: TWO_WINDOWS,
-        topology: TWO_ENDPOINTS,
-        image: FIRST_REGION,
-        changes: &[
-            Word(176, 2),
-            Word(188, 0x1600),
-            Word(332, 0x1600),
-            Word(464, 2),
-            Word(476, 0x1600),
-        ],
-        fails: &[],
-        lines: "\
-down 0x200000000\n\
-show auto1\n\
-destroy auto1\n\
-show auto0\n",
-        code: 0,
-        text: "\
-down 0x200000000 region auto1 slot 0 position 0 via hb1:0:0 endpoint e1 dpa 0x0\n\
-region auto1 ram window 1 base 0x200000000 size 0x20000000 gran 256 ways 1\n\
-node hb1 0 00000000 00000002 20000000 00000000 00001600 00000000 00000000\n\
-node e1 0 00000000 00000002 20000000 00000000 00001600 00000000 00000000\n\
-slot 0 e1 0x0\n\
-destroyed auto1\n\
-region auto0 ram window 0 base 0x100000000 size 0x20000000 gran 256 ways 1\n\
-node hb0 0 00000000 00000001 20000000 00000000 00001600 00000000 00000000\n\
-node e0 0 00000000 00000001 20000000 00000000 00001600 00000000 00000000\n\
-slot 0 e0 0x0\n",
-    },
-    Script {
-        name: "an image with a breach",
-        table: TWO_BRIDGES,
-        topology: TWO_ENDPOINTS,
-        image: FIRST_REGION,
-        changes: &[
-            Word(348, 0x2000_0000),
-            Word(352, 1),
-            Word(356, 0x2000_0000),
-            Word(364, 0x1610),
-        ],
-        fails: &[],
-        lines: "\
-destroy auto0\n",
-        code: 8,
-        text: "\
-breach K11 e0 1\n",
-    },
-];
-
-#[test]
-fn poisoned(rt: HostRuntime) {
-    come_to(&rt, &POISONED);
-}
-
-const POISONED: [Script; 3] = [
-    // A record past the end of a span, one of no length, a false count, and a list that is cut.
-    Script {
-        name: "a record past the end of a span, and lists with a fault",
-        table: TWO_BRIDGES,
-        topology: TWO_ENDPOINTS,
-        image: "",
-        changes: &[],
-        fails: &[],
-        lines: "\
-create r0 ram 0x20000000 e0 e1\n\
-poison e0 0000000000000000000001000000000000000000000000000000000000000000c2ffff0f000000000200000000000000\n\
-poison e0 0000000000000000000001000000000000000000000000000000000000000000c2ffff0f000000000000000000000000\n\
-poison e0 0000000000000000000002000000000000000000000000000000000000000000c2ffff0f000000000200000000000000\n\
-poison e0 00000000000000000000010000000000000000000000000000000000000000\n\
-poison e2 0000000000000000000001000000000000000000000000000000000000000000c2ffff0f000000000200000000000000\n",
-        code: 0,
-        text: "\
 created r0 window 0 base 0x100000000 size 0x20000000 gran 256 ways 2\n\
-poison e0 records 1\n\
-record 0xfffffc0 length 128 source internal\n\
-run 0x11ffffec0 64 region r0\n\
-unmapped 64\n\
-poison e0 records 1\n\
-record 0xfffffc0 length 0 source internal\n\
-poison count 2 1\n\
-poison short\n\
-no such endpoint e2\n",
-    },
-    Script {
-        name: "a record over the end of one region and the start of the next",
-        table: TWO_BRIDGES,
-        topology: TWO_ENDPOINTS,
-        image: "",
-        changes: &[],
-        fails: &[],
-        lines: "\
-create a ram 0x20000000 e0 e1\n\
-create b ram 0x20000000 e0 e1\n\
-poison e0 0000000000000000000001000000000000000000000000000000000000000000c2ffff0f000000000200000000000000\n",
-        code: 0,
-        text: "\
-created a window 0 base 0x100000000 size 0x20000000 gran 256 ways 2\n\
-created b window 0 base 0x120000000 size 0x20000000 gran 256 ways 2\n\
-poison e0 records 1\n\
-record 0xfffffc0 length 128 source internal\n\
-run 0x11ffffec0 64 region a\n\
-run 0x120000000 64 region b\n",
-    },
-    Script {
-        name: "a record over two chunks of a region of six ways",
-        table: THREE_BRIDGES,
-        topology: SIX_ENDPOINTS,
-        image: "",
-        changes: &[],
-        fails: &[],
-        lines: "\
-create t ram 0x60000000 e0 e1 e2 e3 e4 e5\n\
-poison e2 000000000000000000000100000000000000000000000000000000000000000002000000000000000800000000000000\n",
-        code: 0,
-        text: "\
-created t window 0 base 0x100000000 size 0x60000000 gran 256 ways 6\n\
-poison e2 records 1\n\
-record 0x0 length 512 source internal\n\
-run 0x100000400 256 region t\n\
-run 0x100000a00 256 region t\n",
+bus fault read\n\
+region r0 ram window 0 base 0x100000000 size 0x20000000 gran 256 ways 2\n\
+node hb0 0 00000000 00000001 20000000 00000000 00001600 00000000 00000000\n\
+node hb1 0 00000000 00000001 20000000 00000000 00001600 00000000 00000000\n\
+node e0 0 00000000 00000001 20000000 00000000 00001610 00000000 00000000\n\
+node e1 0 00000000 00000001 20000000 00000000 00001610 00000000 00000000\n\
+slot 0 e0 0x0\n\
+slot 1 e1 0x0\n",
     },
 ];

@@ -21,8 +21,6 @@ const APART: Script = Script {
     name: "two windows",
     table: TWO_WINDOWS,
     topology: TWO_ENDPOINTS,
-    image: "",
-    changes: &[],
     fails: &[],
     lines: "",
     code: 0,
