@@ -16,15 +16,6 @@ pub(crate) const TWO_BY_TWO: &str = "0x382, 0x382, \
     0x1b02 0 0 0x4000000000 0, 0x1b02 0 1 0x4000000000 0, \
     0x1b02 1 0 0x4000000000 0, 0x1b02 1 1 0x4000000000 0";
 
-/// A bridge with two switches, and two endpoints of 1 GiB below each.
-pub(crate) const BELOW_TWO_SWITCHES: &str = "0x382, 0x382 0 0, 0x382 0 1, \
-    0x1b02 1 0 0x40000000 0, 0x1b02 1 1 0x40000000 0, \
-    0x1b02 2 0 0x40000000 0, 0x1b02 2 1 0x40000000 0";
-
-/// Three bridges with an endpoint of 256 MiB each.
-pub(crate) const THREE_BY_ONE: &str = "0x382, 0x382, 0x382, \
-    0x1b02 0 0 0x10000000 0, 0x1b02 1 0 0x10000000 0, 0x1b02 2 0 0x10000000 0";
-
 /// Three bridges with two endpoints of 2 GiB each.
 pub(crate) const THREE_BY_TWO: &str = "0x382, 0x382, 0x382, \
     0x1b02 0 0 0x80000000 0, 0x1b02 0 1 0x80000000 0, \
@@ -36,9 +27,6 @@ pub(crate) const SIX_BY_ONE: &str = "0x382, 0x382, 0x382, 0x382, 0x382, 0x382, \
     0x1b02 0 0 0x80000000 0, 0x1b02 1 0 0x80000000 0, 0x1b02 2 0 0x80000000 0, \
     0x1b02 3 0 0x80000000 0, 0x1b02 4 0 0x80000000 0, 0x1b02 5 0 0x80000000 0";
 
-/// One bridge with an endpoint of 1 GiB of each kind.
-pub(crate) const ONE_OF_BOTH_KINDS: &str = "0x382, 0x1b02 0 0 0x40000000 0x40000000";
-
 // ---- windows
 
 /// 4 GiB over the first bridge.
@@ -46,15 +34,6 @@ pub(crate) const OVER_ONE: &str = "0x100000000 0x100000000 0 0 0x000e 0";
 
 /// 4 GiB over two bridges.
 pub(crate) const OVER_TWO: &str = "0x100000000 0x100000000 0 0 0x000e 0 1";
-
-/// The same with XOR arithmetic.
-pub(crate) const OVER_TWO_XOR: &str = "0x100000000 0x100000000 0 1 0x000e 0 1";
-
-/// 1 TiB over two bridges.
-pub(crate) const OVER_TWO_LONG: &str = "0x1000000000 0x10000000000 0 0 0x000e 0 1";
-
-/// 768 MiB over three bridges.
-pub(crate) const OVER_THREE: &str = "0x100000000 0x30000000 0 0 0x000e 0 1 2";
 
 /// 1.5 GiB over three bridges.
 pub(crate) const OVER_THREE_LONG: &str = "0x100000000 0x60000000 0 0 0x000e 0 1 2";
@@ -71,18 +50,6 @@ pub(crate) const TWO_WAYS: &str =
 /// The same below bridges that forward.
 pub(crate) const TWO_WAYS_BELOW: &str = "2 4 0 0x100000000 0x20000000 0x10 0";
 
-/// A region of three ways over three bridges with an endpoint each.
-pub(crate) const THREE_WAYS: &str =
-    "0 3 0 0x100000000 0x30000000 0 0, 3 6 0 0x100000000 0x30000000 0x80 0";
-
-/// A region of four ways, of 1 GiB, over two bridges with two endpoints each.
-pub(crate) const FOUR_WAYS: &str =
-    "0 2 0 0x1000000000 0x40000000 0x11 0x0100, 2 6 0 0x1000000000 0x40000000 0x20 0";
-
-/// The same of 1 TiB.
-pub(crate) const FOUR_WAYS_LONG: &str =
-    "0 2 0 0x1000000000 0x10000000000 0x11 0x0100, 2 6 0 0x1000000000 0x10000000000 0x20 0";
-
 /// A region of six ways from three, two below each bridge.
 pub(crate) const SIX_WAYS_FROM_THREE: &str =
     "0 3 0 0x100000000 0x60000000 0x10 0x0100, 3 9 0 0x100000000 0x60000000 0x90 0";
@@ -90,7 +57,3 @@ pub(crate) const SIX_WAYS_FROM_THREE: &str =
 /// A region of six ways over six bridges with an endpoint each.
 pub(crate) const SIX_WAYS: &str =
     "0 6 0 0x100000000 0x60000000 0 0, 6 12 0 0x100000000 0x60000000 0x90 0";
-
-/// A region of each kind in one endpoint, the second over a skip into persistent memory.
-pub(crate) const RAM_THEN_PMEM: &str = "0 2 0 0x100000000 0x10000000 0 0, \
-    0 1 1 0x110000000 0x10000000 0 0, 1 2 1 0x110000000 0x10000000 0 0x30000000";

@@ -1,5 +1,5 @@
-//! Tests of worked hosts, written as a few numbers each, and of what the crates say of them: where addresses lead, which images
-//! break a rule, which regions are planned and which endpoints picked, what poison records touch, and on which devices ranges lie.
+//! Tests of worked hosts that no command shows, written as a few numbers each: where addresses lead by kept routes and by registers,
+//! why one leads nowhere, images of other nodes than the host's, and all places that break a rule.
 #![tactic(auto)]
 
 #[cfg(test)]
@@ -8,16 +8,6 @@ mod breaches;
 mod host_texts;
 #[cfg(test)]
 mod hosts;
-#[cfg(test)]
-mod picks;
-#[cfg(test)]
-mod plan_rows;
-#[cfg(test)]
-mod plans;
-#[cfg(test)]
-mod poison;
-#[cfg(test)]
-mod reaches;
 #[cfg(test)]
 mod rows;
 #[cfg(test)]

@@ -8,10 +8,8 @@ ghost use Rattle.cxl_model.specs.Regions.{IsRegion};
 
 use crate::breaches::breaks;
 use crate::host_texts::{
-    FOUR_WAYS_LONG, ONE_OF_BOTH_KINDS, OVER_ONE, OVER_SIX_XOR, OVER_THREE, OVER_THREE_LONG,
-    OVER_TWO, OVER_TWO_LONG, OVER_TWO_XOR, RAM_THEN_PMEM, SIX_BY_ONE, SIX_WAYS,
-    SIX_WAYS_FROM_THREE, THREE_BY_ONE, THREE_BY_TWO, THREE_WAYS, TWO_BY_ONE, TWO_BY_TWO,
-    TWO_FORWARDING, TWO_WAYS, TWO_WAYS_BELOW,
+    OVER_ONE, OVER_SIX_XOR, OVER_THREE_LONG, OVER_TWO, SIX_BY_ONE, SIX_WAYS, SIX_WAYS_FROM_THREE,
+    THREE_BY_TWO, TWO_BY_ONE, TWO_FORWARDING, TWO_WAYS, TWO_WAYS_BELOW,
 };
 use crate::hosts::{Worked, host_of};
 use crate::rows::{as_byte, as_word, at, numbers, row_passes, shows};
@@ -158,44 +156,10 @@ fn are_routed(rt: &(impl Abort + AllocGlobal), rows: &[Row]) {
 
 #[test]
 fn routes(rt: HostRuntime) {
-    are_routed(&rt, BY_REMAINDERS);
-    routes_by_other_ways(&rt);
+    are_routed(&rt, ROUTES);
 }
 
-/// Under XOR arithmetic, by second decoders, below bridges that forward, and over five steps. Two functions name fewer texts
-/// each, and a proof grows with the square of their number.
-fn routes_by_other_ways(rt: &(impl Abort + AllocGlobal)) {
-    are_routed(rt, BY_OTHER_WAYS);
-}
-
-/// Six bridges with two endpoints each.
-const SIX_BY_TWO: &str = "0x382, 0x382, 0x382, 0x382, 0x382, 0x382, \
-    0x1b02 0 0 0x80000000 0, 0x1b02 0 1 0x80000000 0, \
-    0x1b02 1 0 0x80000000 0, 0x1b02 1 1 0x80000000 0, \
-    0x1b02 2 0 0x80000000 0, 0x1b02 2 1 0x80000000 0, \
-    0x1b02 3 0 0x80000000 0, 0x1b02 3 1 0x80000000 0, \
-    0x1b02 4 0 0x80000000 0, 0x1b02 4 1 0x80000000 0, \
-    0x1b02 5 0 0x80000000 0, 0x1b02 5 1 0x80000000 0";
-
-/// A bridge, four levels of switches with two ports each, and sixteen endpoints.
-const FIVE_LEVELS: &str = "0x382, 0x382 0 0, \
-    0x382 1 0, 0x382 1 1, 0x382 2 0, 0x382 2 1, 0x382 3 0, 0x382 3 1, 0x382 4 0, 0x382 4 1, \
-    0x382 5 0, 0x382 5 1, 0x382 6 0, 0x382 6 1, 0x382 7 0, 0x382 7 1, \
-    0x1b02 8 0 0x10000000 0, 0x1b02 8 1 0x10000000 0, \
-    0x1b02 9 0 0x10000000 0, 0x1b02 9 1 0x10000000 0, \
-    0x1b02 10 0 0x10000000 0, 0x1b02 10 1 0x10000000 0, \
-    0x1b02 11 0 0x10000000 0, 0x1b02 11 1 0x10000000 0, \
-    0x1b02 12 0 0x10000000 0, 0x1b02 12 1 0x10000000 0, \
-    0x1b02 13 0 0x10000000 0, 0x1b02 13 1 0x10000000 0, \
-    0x1b02 14 0 0x10000000 0, 0x1b02 14 1 0x10000000 0, \
-    0x1b02 15 0 0x10000000 0, 0x1b02 15 1 0x10000000 0";
-
-const SIXTEEN_WAYS: &str = "0 1 0 0x100000000 0x100000000 0 0, \
-    1 2 0 0x100000000 0x100000000 0x10 0x0100, 2 4 0 0x100000000 0x100000000 0x11 0x0100, \
-    4 8 0 0x100000000 0x100000000 0x12 0x0100, 8 16 0 0x100000000 0x100000000 0x13 0x0100, \
-    16 32 0 0x100000000 0x100000000 0x40 0";
-
-const BY_REMAINDERS: &[Row] = &[
+const ROUTES: &[Row] = &[
     Row {
         name: "two ways",
         nodes: TWO_BY_ONE,
@@ -203,22 +167,6 @@ const BY_REMAINDERS: &[Row] = &[
         ranges: TWO_WAYS,
         h: 0x1_0000_0100,
         way: "1 0x100000000 3 0 0  1 0 0",
-    },
-    Row {
-        name: "three ways",
-        nodes: THREE_BY_ONE,
-        windows: OVER_THREE,
-        ranges: THREE_WAYS,
-        h: 0x1_2fff_ffff,
-        way: "2 0x100000000 5 0 0xfffffff  2 0 0",
-    },
-    Row {
-        name: "six ways from three, the second bridge",
-        nodes: THREE_BY_TWO,
-        windows: OVER_THREE_LONG,
-        ranges: SIX_WAYS_FROM_THREE,
-        h: 0x1_0000_0400,
-        way: "1 0x100000000 5 0 0  1 0 0",
     },
     Row {
         name: "six ways from three, the first bridge",
@@ -229,33 +177,6 @@ const BY_REMAINDERS: &[Row] = &[
         way: "0 0x100000000 3 0 0x100  0 0 0",
     },
     Row {
-        name: "twelve ways from six",
-        nodes: SIX_BY_TWO,
-        windows: "0x100000000 0xc0000000 0 0 0x000e 0 1 2 3 4 5",
-        ranges: "0 6 0 0x100000000 0xc0000000 0x11 0x0100, 6 18 0 0x100000000 0xc0000000 0xa0 0",
-        h: 0x1_0000_0b00,
-        way: "5 0x100000000 17 0 0  5 0 1",
-    },
-    Row {
-        name: "the last byte of 1 TiB",
-        nodes: TWO_BY_TWO,
-        windows: OVER_TWO_LONG,
-        ranges: FOUR_WAYS_LONG,
-        h: 0x10f_ffff_ffff,
-        way: "1 0x1000000000 5 0 0x3fffffffff  1 0 1",
-    },
-];
-
-const BY_OTHER_WAYS: &[Row] = &[
-    Row {
-        name: "two ways under XOR",
-        nodes: TWO_BY_ONE,
-        windows: OVER_TWO_XOR,
-        ranges: TWO_WAYS,
-        h: 0x1_0000_4000,
-        way: "1 0x100000000 3 0 0x2000  1 0 0",
-    },
-    Row {
         name: "six ways under XOR",
         nodes: SIX_BY_ONE,
         windows: OVER_SIX_XOR,
@@ -264,28 +185,12 @@ const BY_OTHER_WAYS: &[Row] = &[
         way: "1 0x100000000 7 0 0xb00  1 0 0",
     },
     Row {
-        name: "the second decoders, over a skip into persistent memory",
-        nodes: ONE_OF_BOTH_KINDS,
-        windows: OVER_ONE,
-        ranges: RAM_THEN_PMEM,
-        h: 0x1_1000_0000,
-        way: "0 0x110000000 1 1 0x40000000  0 1 0",
-    },
-    Row {
         name: "bridges that forward make no step",
         nodes: TWO_FORWARDING,
         windows: OVER_TWO,
         ranges: TWO_WAYS_BELOW,
         h: 0x1_0000_0100,
         way: "1 0x100000000 3 0 0",
-    },
-    Row {
-        name: "five steps",
-        nodes: FIVE_LEVELS,
-        windows: OVER_ONE,
-        ranges: SIXTEEN_WAYS,
-        h: 0x1_0000_0b00,
-        way: "0 0x100000000 29 0 0  0 0 0  1 0 1  3 0 1  7 0 0  14 0 1",
     },
 ];
 
@@ -362,59 +267,6 @@ const MISSES: [Row; 7] = [
         ranges: "0 2 0 0x100000000 0 0 0",
         h: 0x1_0000_0000,
         way: "Err(BadBlock(0))",
-    },
-];
-
-/// A name, committed decoders of two bridges, a byte of the second endpoint's device, and the host address that comes back from
-/// it.
-struct Back {
-    name: &'static str,
-    ranges: &'static str,
-    dpa: u64,
-    h: Option<u64>,
-}
-
-fn is_back(rt: &impl Abort, alloc: Global, row: &Back) -> bool {
-    let host = host_of(rt, alloc, TWO_BY_ONE, OVER_TWO, row.ranges);
-    let back = match row.h {
-        Some(h) => comes_back(&host, 3, row.dpa, 0x1_0000_0000, h),
-        None => up_from(&host, 3, row.dpa).is_none(),
-    };
-    drop(host);
-    back
-}
-
-#[test]
-fn ways_back(rt: HostRuntime) {
-    for row in BACK.iter() {
-        row_passes(&rt, row.name, is_back(&rt, rt.alloc(), row));
-    }
-}
-
-const BACK: [Back; 4] = [
-    Back {
-        name: "the first byte",
-        ranges: TWO_WAYS,
-        dpa: 0,
-        h: Some(0x1_0000_0100),
-    },
-    Back {
-        name: "the last byte of the share",
-        ranges: TWO_WAYS,
-        dpa: 0xfff_ffff,
-        h: Some(0x1_1fff_ffff),
-    },
-    Back {
-        name: "the byte behind the share",
-        ranges: TWO_WAYS,
-        dpa: 0x1000_0000,
-        h: None,
-    },
-    Back {
-        name: "an endpoint that decodes nothing",
-        ranges: "",
-        dpa: 0,
-        h: None,
     },
 ];
 
