@@ -1,12 +1,9 @@
-//! What the lines of a script ask for, and their faults.
+//! What the lines of a script ask for. Their faults stand in `worked/lines`.
 
 use crate::common::row_passes;
 use cxl_enc::{MemKind, Name};
 use cxl_script::{Command, Create, LineFault, read_command};
 use std::process::Abort;
-
-mod faults;
-mod words;
 
 type Read = Result<Option<Command>, LineFault>;
 
