@@ -1,8 +1,7 @@
-//! Tables of the CEDT: what they are read as, their faults, and how they are written.
+//! Tables of the CEDT: what they are read as, and how they are written. Their faults stand in `worked/faults`.
 
 use crate::common::row_passes;
-use byteorder::{ByteOrder, LittleEndian};
-use cxl_cedt::{Cedt, CedtFault, Cfmws, Chbs, Cxims, Head, Other, Record, read, write};
+use cxl_cedt::{Cedt, Cfmws, Chbs, Cxims, Head, Other, Record, read, write};
 use std::alloc::Global;
 use std::process::Abort;
 use std::test::*;
@@ -71,22 +70,6 @@ fn table(alloc: Global, bytes: &[u8]) -> Option<Cedt> {
 fn changed_table(rt: &impl Abort, alloc: Global, changes: &[Change], more: &[u8]) -> Cedt {
     let bytes = changed(rt, alloc, changes, more);
     table(alloc, &bytes).expect(rt, "a table")
-}
-
-/// Whether the bytes have this fault.
-fn is_fault(alloc: Global, bytes: &[u8], want: CedtFault) -> bool {
-    if bytes.len() > 1_048_576 {
-        return false;
-    }
-    match read(alloc, bytes) {
-        Ok(_) => false,
-        Err(fault) => fault == want,
-    }
-}
-
-/// Whether the two bridges' table with some bytes changed has this fault.
-fn is_refused(rt: &impl Abort, alloc: Global, changes: &[Change], want: CedtFault) -> bool {
-    is_fault(alloc, &changed(rt, alloc, changes, &[]), want)
 }
 
 /// Whether a table is written as these bytes.
@@ -176,138 +159,6 @@ fn two_bridges(rt: HostRuntime) {
     assert!(rt; *cedt.head() == HEAD && are_two_bridges(cedt.records()));
 }
 
-/// Changes of the two bridges' table, and the fault that it then has.
-struct FaultRow {
-    name: &'static str,
-    changes: &'static [Change],
-    fault: CedtFault,
-}
-
-const FAULTS: &[FaultRow] = &[
-    FaultRow {
-        name: "another signature",
-        changes: &[Change { at: 0, byte: 0x44 }],
-        fault: CedtFault::Signature,
-    },
-    FaultRow {
-        name: "another length",
-        changes: &[Change { at: 4, byte: 0x91 }],
-        fault: CedtFault::Length,
-    },
-    FaultRow {
-        name: "another checksum",
-        changes: &[Change { at: 9, byte: 0xcb }],
-        fault: CedtFault::Checksum,
-    },
-    FaultRow {
-        name: "a window that ends behind the table",
-        changes: &[
-            Change {
-                at: 102,
-                byte: 0x2d,
-            },
-            Change { at: 9, byte: 0xc9 },
-        ],
-        fault: CedtFault::RecordCut(100),
-    },
-    FaultRow {
-        name: "a bridge of 33 bytes",
-        changes: &[Change { at: 38, byte: 0x21 }, Change { at: 9, byte: 0xc9 }],
-        fault: CedtFault::RecordLength(36),
-    },
-    FaultRow {
-        name: "a window without its second target",
-        changes: &[
-            Change {
-                at: 102,
-                byte: 0x28,
-            },
-            Change { at: 9, byte: 0xce },
-        ],
-        fault: CedtFault::RecordLength(100),
-    },
-    FaultRow {
-        name: "a ways code that stands for nothing",
-        changes: &[
-            Change {
-                at: 124,
-                byte: 0x05,
-            },
-            Change { at: 9, byte: 0xc6 },
-        ],
-        fault: CedtFault::WaysCode(100),
-    },
-    FaultRow {
-        name: "a granularity code that stands for nothing",
-        changes: &[
-            Change {
-                at: 128,
-                byte: 0x07,
-            },
-            Change { at: 9, byte: 0xc3 },
-        ],
-        fault: CedtFault::GranCode(100),
-    },
-    FaultRow {
-        name: "an arithmetic code that stands for nothing",
-        changes: &[
-            Change {
-                at: 125,
-                byte: 0x02,
-            },
-            Change { at: 9, byte: 0xc8 },
-        ],
-        fault: CedtFault::Arithmetic(100),
-    },
-    FaultRow {
-        name: "a ways code before an arithmetic and a granularity code",
-        changes: &[
-            Change {
-                at: 128,
-                byte: 0x07,
-            },
-            Change {
-                at: 125,
-                byte: 0x02,
-            },
-            Change {
-                at: 124,
-                byte: 0x05,
-            },
-            Change { at: 9, byte: 0xbd },
-        ],
-        fault: CedtFault::WaysCode(100),
-    },
-];
-
-fn are_refused(rt: &(impl Abort + AllocGlobal), rows: &[FaultRow]) {
-    for row in rows {
-        row_passes(
-            rt,
-            row.name,
-            is_refused(rt, rt.alloc(), row.changes, row.fault),
-        );
-    }
-}
-
-#[test]
-fn faults(rt: HostRuntime) {
-    are_refused(&rt, FAULTS);
-}
-
-/// Without its end the table is too short for a header, or its length is wrong.
-#[test]
-fn prefixes(rt: HostRuntime) {
-    for n in 0..144 {
-        let fault = if n < 36 {
-            CedtFault::Short
-        } else {
-            CedtFault::Length
-        };
-        assert!(rt; is_fault(rt.alloc(), &TWO_BRIDGES[..n], fault));
-    }
-}
-
 #[test]
 fn xor_maps(rt: HostRuntime) {
     let cedt = changed_table(&rt, rt.alloc(), FOR_XOR, &ONE_MAP);
@@ -320,50 +171,6 @@ fn other_records(rt: HostRuntime) {
     let cedt = changed_table(&rt, rt.alloc(), FOR_OTHER, &OTHER);
     assert!(rt; have_other(cedt.records()));
     assert!(rt; is_written_changed(&rt, rt.alloc(), &cedt, FOR_OTHER, &OTHER));
-}
-
-/// Gives the table its length and its checksum.
-fn seal(bytes: &mut [u8]) {
-    if bytes.len() < 36 || bytes.len() > 1_048_576 {
-        return;
-    }
-    let len = bytes.len() as u32;
-    LittleEndian::write_u32(&mut bytes[4..], len);
-    bytes[9] = 0;
-    let mut sum: u8 = 0;
-    for byte in bytes.iter() {
-        sum = sum.wrapping_add(*byte);
-    }
-    bytes[9] = 0u8.wrapping_sub(sum);
-}
-
-/// A table of as many bridges.
-fn bridges(rt: &impl Abort, alloc: Global, count: u32) -> Vec<u8> {
-    let mut bytes = TWO_BRIDGES[..36].to_vec(alloc).expect(rt, "memory");
-    for _ in 0..count {
-        bytes
-            .extend_from_slice(&TWO_BRIDGES[36..68])
-            .expect(rt, "memory");
-    }
-    seal(&mut bytes);
-    bytes
-}
-
-/// Whether a table has so many records.
-fn has_records(alloc: Global, bytes: &[u8], count: usize) -> bool {
-    match table(alloc, bytes) {
-        Some(cedt) => cedt.records().len() == count,
-        None => false,
-    }
-}
-
-/// The 65th bridge is one too many, and the 64th is not.
-#[test]
-fn many_bridges(rt: HostRuntime) {
-    let most = bridges(&rt, rt.alloc(), 64);
-    assert!(rt; has_records(rt.alloc(), &most, 64));
-    let more = bridges(&rt, rt.alloc(), 65);
-    assert!(rt; is_fault(rt.alloc(), &more, CedtFault::TooMany(2_084)));
 }
 
 /// The changes for a reserved field of the first bridge.
