@@ -155,7 +155,6 @@ fn laws() {
 
 /// The place of a byte that is changed, the byte, and the first fault.
 struct FirstFault {
-    name: &'static str,
     at: usize,
     byte: u8,
     fault: ImageFault,
@@ -173,72 +172,8 @@ fn is_refused_with(
     is_refused(alloc, topo, &bytes, row.fault)
 }
 
-fn have_first_faults(
-    rt: &impl Abort,
-    alloc: Global,
-    topo: &Topo,
-    whole: &[u8],
-    rows: &[FirstFault],
-) {
-    for row in rows {
-        row_passes(rt, row.name, is_refused_with(rt, alloc, topo, whole, row));
-    }
-}
-
-const FIRST_FAULTS: &[FirstFault] = &[
-    FirstFault {
-        name: "the magic's first letter",
-        at: 0,
-        byte: 0x63,
-        fault: ImageFault::Magic,
-    },
-    FirstFault {
-        name: "the magic's last digit",
-        at: 7,
-        byte: 0x32,
-        fault: ImageFault::Magic,
-    },
-    FirstFault {
-        name: "five nodes",
-        at: 8,
-        byte: 0x05,
-        fault: ImageFault::Nodes(5),
-    },
-    FirstFault {
-        name: "more than 2^24 nodes",
-        at: 11,
-        byte: 0x01,
-        fault: ImageFault::Nodes(0x0100_0004),
-    },
-    FirstFault {
-        name: "a bridge's decoder count",
-        at: 12,
-        byte: 0x83,
-        fault: ImageFault::Caps(0),
-    },
-    FirstFault {
-        name: "a bridge of three ways",
-        at: 13,
-        byte: 0x0b,
-        fault: ImageFault::Caps(0),
-    },
-    FirstFault {
-        name: "the other bridge of sixteen ways",
-        at: 157,
-        byte: 0x13,
-        fault: ImageFault::Caps(1),
-    },
-    FirstFault {
-        name: "an endpoint with a target",
-        at: 444,
-        byte: 0x12,
-        fault: ImageFault::Caps(3),
-    },
-];
-
 /// Another number of nodes.
 const OTHER_NODES: FirstFault = FirstFault {
-    name: "another number of nodes",
     at: 8,
     byte: 5,
     fault: ImageFault::Nodes(5),
@@ -277,7 +212,6 @@ fn faults(rt: HostRuntime) {
     let alloc = rt.alloc();
     let topo = topology(&rt, alloc, false);
     let whole = reset_file(&rt, alloc, &topo);
-    have_first_faults(&rt, alloc, &topo, &whole, FIRST_FAULTS);
     assert!(rt; earlier_field_comes_first(&rt, alloc, &topo, &whole));
     assert!(rt; byte_too_many_comes_last(&rt, alloc, &topo, &whole));
     each_prefix_is_cut(&rt, alloc, &topo, &whole);
