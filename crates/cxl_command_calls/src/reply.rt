@@ -1,23 +1,17 @@
-//! The texts of replies.
+//! Texts of replies whose values no host comes to. All others stand in `worked/`.
 
-ghost use Rattle.std.specs.Prelude.{◌≡◌, length};
-ghost use Rattle.cxl_reply.specs.Conditions.{IsTold, HasKnownCode};
+ghost use Rattle.std.specs.Prelude.{◌≡◌, List, length, IsTrue, ◌↔◌, ◌<◌};
+ghost use Rattle.cxl_reply.specs.Conditions.{IsTold, HasKnownCode, IsToldDown, IsToldReason, IsToldFault};
+ghost use Rattle.cxl_topo.specs.declared.node.Node.{Node};
 
 use crate::common::row_passes;
 use cxl_enc::Name;
-use cxl_reply::{
-    BadLine, Begun, Carried, Counted, Lack, Named, Pending, Progress, Reply, Sizes, Spot, Why,
-};
+use cxl_model::{PlanFault, Reason, Room};
+use cxl_reply::{BadLine, Downed, FixedList, Named, Reply, Via, Why};
 use cxl_text::{put_reply, short};
 use cxl_topo::Topo;
 use cxl_topofile::read_topo;
 use std::process::Abort;
-use told::is_told;
-
-mod plans;
-mod poison;
-mod regions;
-mod told;
 
 fn name(rt: &impl Abort, text: &str) -> Name {
     Name::read(text.as_bytes()).expect(rt, "a name")
@@ -104,56 +98,60 @@ fn tells(rt: &(impl Abort + AllocGlobal), reply: Reply, want: &str) {
     row_passes(rt, want, is_printed(rt, reply, want, Some(true)));
 }
 
-#[test]
-fn short_replies(rt: HostRuntime) {
-    let r0 = name(&rt, "r0");
-    let created = Named {
-        name: r0,
-        window: 0,
-        base: 0x1_0000_0000,
-        size: 0x2000_0000,
-        gran: 0,
-        ways: 2,
-    };
-    let begun = Begun {
-        name: r0,
-        writes: 32,
-    };
-    let stepped = Progress {
-        done: 24,
-        total: 32,
-    };
-    tells(
-        &rt,
-        Reply::Created(created),
-        "created r0 window 0 base 0x100000000 size 0x20000000 gran 256 ways 2\n",
-    );
-    tells(&rt, Reply::Destroyed(r0), "destroyed r0\n");
-    tells(&rt, Reply::Stored(4), "stored 4\n");
-    tells(&rt, Reply::Begun(begun), "begun r0 writes 32\n");
-    tells(&rt, Reply::Stepped(stepped), "stepped 24 of 32\n");
-    tells(&rt, Reply::Aborted(r0), "aborted r0\n");
-}
-
-fn carried_piece(from: Name, to: Name) -> Carried {
-    Carried {
-        from,
-        to,
-        pieces: 1,
+/// Whether a reply names nodes of the eleven.
+fn is_told(reply: &Reply, topo: &Topo) -> bool
+    requires { length topo.now.nodes ≡ 11 }
+    ensures told { IsTrue result → IsTold topo.now.nodes reply.now }
+    ensures code { IsTrue result → HasKnownCode reply.now }
+{
+    match reply {
+        Reply::Created(named) => named.gran <= 6,
+        Reply::Down(downed) => is_told_down(downed, topo),
+        Reply::Refused(fault) => is_told_fault(fault, topo),
+        Reply::BadLine(_) => true,
+        _ => false,
     }
 }
 
+fn is_port(via: &Via) -> bool
+    ensures { IsTrue result ↔ via.now.node < 11 }
+{
+    via.node < 11
+}
+
+fn is_told_down(downed: &Downed, topo: &Topo) -> bool
+    requires { length topo.now.nodes ≡ 11 }
+    ensures { IsTrue result → IsToldDown topo.now.nodes downed.now }
+{
+    downed.len <= 5
+        && downed.via[..usize::from(downed.len)].iter().all(is_port)
+        && downed.endpoint < 11
+}
+
+fn is_reason(reason: &Reason) -> bool
+    ensures { IsTrue result → (nodes : List Node) → length nodes ≡ 11 → IsToldReason nodes reason.now }
+{
+    match reason {
+        Reason::Select(node) | Reason::WaysCap(node) => *node < 11,
+        _ => true,
+    }
+}
+
+fn is_told_fault(fault: &PlanFault, topo: &Topo) -> bool
+    requires { length topo.now.nodes ≡ 11 }
+    ensures { IsTrue result → IsToldFault topo.now.nodes fault.now }
+{
+    match fault {
+        PlanFault::NoWindow(reasons) => reasons.items().iter().all(is_reason),
+        _ => false,
+    }
+}
+
+/// The longest short text.
 #[test]
-fn more_short_replies(rt: HostRuntime) {
-    let from = name(&rt, "r0");
-    let to = name(&rt, "abcdefghijklmno");
-    let pending = Pending {
-        name: from,
-        done: 2,
-        total: 32,
-    };
+fn the_longest(rt: HostRuntime) {
     let longest = Named {
-        name: to,
+        name: name(&rt, "abcdefghijklmno"),
         window: u32::MAX,
         base: u64::MAX,
         size: u64::MAX,
@@ -162,66 +160,9 @@ fn more_short_replies(rt: HostRuntime) {
     };
     tells(
         &rt,
-        Reply::Copied(carried_piece(from, to)),
-        "copied r0 abcdefghijklmno pieces 1\n",
-    );
-    tells(
-        &rt,
-        Reply::Moved(carried_piece(from, to)),
-        "moved r0 abcdefghijklmno pieces 1\n",
-    );
-    tells(&rt, Reply::BusUndone, "bus fault undone\n");
-    tells(
-        &rt,
-        Reply::BusPending(pending),
-        "bus fault pending r0 2 of 32\n",
-    );
-    // The longest short text.
-    tells(
-        &rt,
         Reply::Created(longest),
         "created abcdefghijklmno window 4294967295 base 0xffffffffffffffff size 0xffffffffffffffff gran 16384 ways 255\n",
     );
-}
-
-#[test]
-fn refusals(rt: HostRuntime) {
-    let b = name(&rt, "b");
-    let lack = Lack { need: 2, free: 1 };
-    let spot = Spot {
-        node: 0,
-        decoder: 1,
-    };
-    let sizes = Sizes {
-        from: 0x2000_0000,
-        to: 0x4000_0000,
-    };
-    prints(&rt, Reply::Busy(b), "busy b\n");
-    prints(&rt, Reply::NameTaken(b), "name taken b\n");
-    prints(&rt, Reply::NoRegion(b), "no such region b\n");
-    prints(&rt, Reply::NoEndpoint(b), "no such endpoint b\n");
-    prints(&rt, Reply::SameRegion(b), "same region b\n");
-    prints(&rt, Reply::RegionsFull, "regions full\n");
-    prints(&rt, Reply::Full(lack), "full need 2 free 1\n");
-    prints(&rt, Reply::Locked(spot), "locked hb0 1\n");
-    prints(&rt, Reply::NotLast(spot), "not last hb0 1\n");
-    prints(
-        &rt,
-        Reply::SizesDiffer(sizes),
-        "sizes differ 0x20000000 0x40000000\n",
-    );
-}
-
-#[test]
-fn more_refusals(rt: HostRuntime) {
-    let counted = Counted { said: 2, room: 1 };
-    prints(&rt, Reply::Unmapped, "unmapped\n");
-    prints(&rt, Reply::CrossesEnd, "crosses end\n");
-    prints(&rt, Reply::NoSet, "refused no-set\n");
-    prints(&rt, Reply::PoisonShort, "poison short\n");
-    prints(&rt, Reply::PoisonCount(counted), "poison count 2 1\n");
-    prints(&rt, Reply::BusRead, "bus fault read\n");
-    prints(&rt, Reply::NothingPending, "nothing pending\n");
 }
 
 const WHYS: [(Why, &str); 9] = [
@@ -245,4 +186,89 @@ fn bad_lines(rt: HostRuntime) {
     for (why, want) in &WHYS {
         prints(&rt, bad_line(*why), *want);
     }
+}
+
+fn via(node: u32, entry: u8) -> Via {
+    Via {
+        node,
+        decoder: 0,
+        entry,
+    }
+}
+
+/// An address that goes to an endpoint by so many of these ports.
+fn down_reply(rt: &impl Abort, len: u8, via: [Via; 5], endpoint: u32) -> Reply {
+    Reply::Down(Downed {
+        h: 0x10f_ffff_ffff,
+        name: name(rt, "r0"),
+        slot: 3,
+        position: 1,
+        len,
+        via,
+        endpoint,
+        dpa: 0x3f_ffff_ffff,
+    })
+}
+
+fn ports_of(nodes: [u32; 5], entries: [u8; 5]) -> [Via; 5] {
+    [
+        via(nodes[0], entries[0]),
+        via(nodes[1], entries[1]),
+        via(nodes[2], entries[2]),
+        via(nodes[3], entries[3]),
+        via(nodes[4], entries[4]),
+    ]
+}
+
+/// One port of a switch, none, and five in a row.
+#[test]
+fn addresses(rt: HostRuntime) {
+    let one = ports_of([1, 0, 0, 0, 0], [1, 0, 0, 0, 0]);
+    let five = ports_of([0, 2, 3, 4, 5], [0, 1, 1, 0, 1]);
+    prints(
+        &rt,
+        down_reply(&rt, 1, one, 9),
+        "down 0x10fffffffff region r0 slot 3 position 1 via hb1:0:1 endpoint e3 dpa 0x3fffffffff\n",
+    );
+    prints(
+        &rt,
+        down_reply(&rt, 0, five, 7),
+        "down 0x10fffffffff region r0 slot 3 position 1 via - endpoint e1 dpa 0x3fffffffff\n",
+    );
+    prints(
+        &rt,
+        down_reply(&rt, 5, five, 10),
+        "down 0x10fffffffff region r0 slot 3 position 1 via hb0:0:0 s0:0:1 s2:0:1 s6:0:0 s13:0:1 endpoint e13 dpa 0x3fffffffff\n",
+    );
+}
+
+const REASONS: [Reason; 8] = [
+    Reason::Unusable,
+    Reason::Kind,
+    Reason::Fixed,
+    Reason::Bridges,
+    Reason::Gran,
+    Reason::Select(0),
+    Reason::WaysCap(7),
+    Reason::NoBase(Room {
+        start: 0x2_0000_0000,
+        limit: 0x2_0000_0000,
+    }),
+];
+
+#[test]
+fn refused_windows(rt: HostRuntime) {
+    let reasons = REASONS.to_vec(rt.alloc()).expect(&rt, "memory");
+    let refused = PlanFault::NoWindow(FixedList::new(reasons));
+    let want = "refused no-window
+window 0 unusable
+window 1 kind
+window 2 fixed
+window 3 bridges
+window 4 gran
+window 5 select hb0
+window 6 ways-cap e1
+window 7 no-base 0x200000000 0x200000000
+";
+    prints(&rt, Reply::Refused(refused), want);
 }
