@@ -159,6 +159,71 @@ block 2 ep0 cap 0x1b00 control 0x2
 decoder ep0 0 base 0x0 size 0xf0000000 ways 1 gran 8388608 codes 7 15 lock 1 commit 0 committed 1 error 1 host-only 0 skip 0x110000000 words 00000000 00000000 f0000000 00000000 00000d7f 10000000 00000001 00000000
 ";
 
+/// The same image with each flag set in a decoder of its own: lock, error, commit, and host-only with committed.
+#[test]
+fn flags_apart(rt: HostRuntime) {
+    let mut words = WORDS;
+    words[9] = 0x0100;
+    words[17] = 0x0800;
+    words[29] = 0x0200;
+    words[41] = 0x1400;
+    let image = image_of(&rt, rt.alloc(), &words);
+    let told = tells(&rt, rt.alloc(), TOPOLOGY, &image, 0, FLAGS);
+    row_passes(&rt, "flags apart", told);
+}
+
+const FLAGS: &str = "\
+block 0 hb0 cap 0x381 control 0x0
+decoder hb0 0 base 0x110000000 size 0x20000000 ways 1 gran 256 codes 0 0 lock 1 commit 0 committed 0 error 0 host-only 0 targets 0 words 10000000 00000001 20000000 00000000 00000100 00000300 00000000 00000000
+decoder hb0 1 base 0x0 size 0x0 ways 1 gran 256 codes 0 0 lock 0 commit 0 committed 0 error 1 host-only 0 targets 0 words 00000000 00000000 00000000 00000000 00000800 00000000 00000000 00000000
+block 1 s0 cap 0x120 control 0x0
+decoder s0 0 base 0x0 size 0x0 ways 1 gran 256 codes 0 0 lock 0 commit 1 committed 0 error 0 host-only 0 targets 1 words 00000000 00000000 00000000 00000000 00000200 00000201 00000000 00000000
+block 2 ep0 cap 0x1b00 control 0x2
+decoder ep0 0 base 0x0 size 0xf0000000 ways 1 gran 256 codes 0 0 lock 0 commit 0 committed 1 error 0 host-only 1 skip 0x110000000 words 00000000 00000000 f0000000 00000000 00001400 10000000 00000001 00000000
+";
+
+/// Nodes whose fields differ from their neighbours'.
+const APART: &[u8] = b"[[bridge]]
+name = \"hb0\"
+uid = 7
+low = false
+[[bridge]]
+name = \"hb1\"
+uid = 9
+passthrough = true
+[[endpoint]]
+name = \"a\"
+parent = \"hb0\"
+port = 3
+ways3 = false
+ram = 0x10000000
+pmem = 0x20000000
+[[endpoint]]
+name = \"b\"
+parent = \"hb0\"
+port = 1
+ways16 = false
+decoders = 10
+pmem = 0x30000000
+";
+
+#[test]
+fn fields_apart(rt: HostRuntime) {
+    let mut out = sink(&rt, rt.alloc(), 4096);
+    let status = tree(rt.alloc(), APART, &mut out);
+    row_passes(&rt, "the status of fields apart", status.code() == 0);
+    row_passes(&rt, "fields apart", took(&out, FIELDS));
+    drop(out);
+}
+
+const FIELDS: &str = "\
+frames 65536
+node 0 hb0 bridge uid 7 cap 0x282 decoders 4 targets 8 low 0 high 1 ways3 0 ways16 0 passthrough 0
+node 1 hb1 bridge uid 9 cap 0x10 decoders 1 targets 1 low 0 high 0 ways3 0 ways16 0 passthrough 1
+node 2 a endpoint ram 0x10000000 pmem 0x20000000 parent hb0 port 3 cap 0x1302 decoders 4 targets 0 low 1 high 1 ways3 0 ways16 1 passthrough 0
+node 3 b endpoint ram 0x0 pmem 0x30000000 parent hb0 port 1 cap 0xb05 decoders 10 targets 0 low 1 high 1 ways3 1 ways16 0 passthrough 0
+";
+
 #[test]
 fn a_topology(rt: HostRuntime) {
     let mut out = sink(&rt, rt.alloc(), 4096);
