@@ -1,0 +1,7 @@
+mod BlockLaws
+mod RangeLaws
+mod Searches
+mod HavingBlocks
+mod UsableWindows
+mod BrokenPlaces
+mod Above

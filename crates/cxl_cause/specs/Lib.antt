@@ -1,0 +1,4 @@
+pub mod BlockCauses
+pub mod RangeCauses
+pub mod Causes
+pub mod inner

@@ -1,0 +1,2 @@
+-- Definitions that only the inner calls and the proofs speak of.
+pub mod Firsts
