@@ -19,10 +19,10 @@ const SECOND_WITHOUT_LOW_BITS: &str =
 const SECOND_WITHOUT_ENDPOINT: &str = "0x382, 0x382, 0x1b02 0 0 0x80000000 0";
 
 /// A byte place in the file of an image, and the word that begins there.
-struct Word(usize, u32);
+pub(crate) struct Word(pub usize, pub u32);
 
 /// The host's image with other words.
-fn changed(rt: &impl Abort, alloc: Global, host: &Worked, words: &[Word]) -> Image {
+pub(crate) fn changed(rt: &impl Abort, alloc: Global, host: &Worked, words: &[Word]) -> Image {
     let mut bytes = write_image(alloc, &host.image).expect(rt, "memory");
     for Word(place, word) in words {
         put_word(rt, &mut bytes, *place, *word);

@@ -1,9 +1,11 @@
 //! Tests of worked hosts that no command shows, written as a few numbers each: where addresses lead by kept routes and by registers,
-//! why one leads nowhere, images of other nodes than the host's, and all places that break a rule.
+//! why one leads nowhere, images of other nodes than the host's, all places that break a rule, and why each does.
 #![tactic(auto)]
 
 #[cfg(test)]
 mod breaches;
+#[cfg(test)]
+mod causes;
 #[cfg(test)]
 mod host_texts;
 #[cfg(test)]
