@@ -5,3 +5,4 @@ mod HavingBlocks
 mod UsableWindows
 mod BrokenPlaces
 mod Above
+mod WantedValues

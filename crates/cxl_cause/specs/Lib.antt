@@ -1,4 +1,5 @@
 pub mod BlockCauses
 pub mod RangeCauses
 pub mod Causes
+pub mod Wanted
 pub mod inner
