@@ -6,3 +6,4 @@ mod UsableWindows
 mod BrokenPlaces
 mod Above
 mod WantedValues
+mod WantedCodes

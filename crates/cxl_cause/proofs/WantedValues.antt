@@ -23,10 +23,10 @@ use Rattle.cxl_cause.specs.Wanted.{put_in_block, with_decoder, StandsIn}
 -- ---- another decoder at a place
 
 module _ (s : System) (n i : ℕ) (block : Registers) (own d : Decoder) (stands : StandsIn s n i block own) where
-  put_there : slice_get (with_decoder s n i d).blocks n ≡ Some (put_in_block i d block)
+  pub put_there : slice_get (with_decoder s n i d).blocks n ≡ Some (put_in_block i d block)
   put_there = rw stands.block_there (get_same s.blocks n (put_in_block i d block) (slice_get_within s.blocks n block stands.block_there))
 
-  decoder_put : slice_get (put_in_block i d block).decoders i ≡ Some d
+  pub decoder_put : slice_get (put_in_block i d block).decoders i ≡ Some d
   decoder_put = get_same block.decoders i d (slice_get_within block.decoders i own stands.there)
 
   same_below : before (put_in_block i d block).decoders i ≡ before block.decoders i

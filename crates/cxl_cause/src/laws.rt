@@ -4,13 +4,21 @@ ghost use Rattle.std.specs.Prelude.{◌≡◌, ℕ, ◌+◌, ◌%◌, ◌<◌, �
 ghost use Rattle.cxl_enc.specs.Limits.{address_limit};
 ghost use Rattle.cxl_regs.specs.declared.decoder.Decoder.{Decoder};
 ghost use Rattle.cxl_regs.specs.Registers.{Registers};
+ghost use Rattle.cxl_regs.specs.Reading.{range_of};
 ghost use Rattle.cxl_regs.specs.Rules.{before};
+ghost use Rattle.cxl_topo.specs.Tree.{is_endpoint_at};
+ghost use Rattle.cxl_topo.specs.Faults.{IsTree};
+ghost use Rattle.cxl_window.specs.Fields.{WindowFields};
+ghost use Rattle.cxl_model.specs.Ranges.{window_for};
+ghost use Rattle.cxl_cause.specs.RangeCauses.{port_code};
 ghost use Rattle.cxl_span.specs.Rules.{size_unit};
 ghost use Rattle.cxl_model.specs.System.{System};
 ghost use Rattle.cxl_model.specs.Accepted.{breaks};
 ghost use Rattle.cxl_cause.specs.BlockCauses.{size_below, size_above};
 ghost use Rattle.cxl_cause.specs.Causes.{cause_at};
 ghost use Rattle.cxl_cause.specs.Wanted.{with_decoder, StandsIn};
+
+use cxl_topo::tree_laws;
 
 /// A law of causes: a decoder has a cause for a rule exactly where it breaks that rule.
 pub fn causes_stand_where_rules_break()
@@ -40,3 +48,12 @@ pub fn ends_below_are_the_least_bases()
         → breaks (with_decoder s n i (record d { base = base })) 7 n i ≡ false
         → below.base + below.size ≤ base }
 {}
+
+/// A law of codes: with the granularity code that a cause of K12 tells of a port in that decoder, the place does not break K12.
+pub fn told_codes_of_ports_keep_the_rule()
+    ensures { (s : System) (n i : ℕ) (block : Registers) (d : Decoder) (w : WindowFields) → IsTree s.nodes
+        → StandsIn s n i block d → is_endpoint_at s.nodes n ≡ false → window_for s (range_of d) ≡ Some w
+        → breaks (with_decoder s n i (record d { gran = port_code s w n (range_of d) })) 12 n i ≡ false }
+{
+    tree_laws();
+}

@@ -19,6 +19,7 @@ mod windows;
 pub use cause::Cause;
 pub use cxl_check::Breach;
 pub use laws::{
-    causes_stand_where_rules_break, ends_below_are_the_least_bases, told_sizes_keep_the_rule,
+    causes_stand_where_rules_break, ends_below_are_the_least_bases,
+    told_codes_of_ports_keep_the_rule, told_sizes_keep_the_rule,
 };
 pub use places::{CausedBreach, cause_of, causes};
