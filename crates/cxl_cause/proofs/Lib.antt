@@ -7,3 +7,4 @@ mod BrokenPlaces
 mod Above
 mod WantedValues
 mod WantedCodes
+mod WantedThirds

@@ -10,7 +10,9 @@ ghost use Rattle.cxl_topo.specs.Tree.{is_endpoint_at};
 ghost use Rattle.cxl_topo.specs.Faults.{IsTree};
 ghost use Rattle.cxl_window.specs.Fields.{WindowFields};
 ghost use Rattle.cxl_model.specs.Ranges.{window_for};
-ghost use Rattle.cxl_cause.specs.RangeCauses.{port_code};
+ghost use Rattle.cxl_model.specs.Rules.{starts_in_thirds};
+ghost use Rattle.cxl_regs.specs.declared.reading.Range.{Range};
+ghost use Rattle.cxl_cause.specs.RangeCauses.{port_code, next_third};
 ghost use Rattle.cxl_span.specs.Rules.{size_unit};
 ghost use Rattle.cxl_model.specs.System.{System};
 ghost use Rattle.cxl_model.specs.Accepted.{breaks};
@@ -57,3 +59,10 @@ pub fn told_codes_of_ports_keep_the_rule()
 {
     tree_laws();
 }
+
+/// A law of thirds: the address that a cause of K9 tells lies past the base, at a multiple of 768 MiB from the window's.
+pub fn told_thirds_start_ranges()
+    ensures starts { (w : WindowFields) (r : Range)
+        → starts_in_thirds w (record { base = next_third w r; size = r.size }) ≡ true }
+    ensures past { (w : WindowFields) (r : Range) → r.base < next_third w r }
+{}
