@@ -9,7 +9,7 @@ ghost use Rattle.cxl_reads.specs.Answers.{table_name, topology_name, image_name}
 use std::alloc::Global;
 
 /// What `route` tells of a host address.
-#[tactic(auto, using(crate::proofs::Codes::of_write_fault))]
+#[tactic(auto, using(cxl_library::proofs::Codes::of_write_fault))]
 #[unsafe(no_mangle)]
 pub extern "C" fn cxlplan_proved_route(
     alloc: Global,
@@ -26,7 +26,7 @@ pub extern "C" fn cxlplan_proved_route(
 }
 
 /// What `list` tells of a table.
-#[tactic(auto, using(crate::proofs::Codes::of_write_fault))]
+#[tactic(auto, using(cxl_library::proofs::Codes::of_write_fault))]
 #[unsafe(no_mangle)]
 pub extern "C" fn cxlplan_proved_list(
     alloc: Global,
@@ -42,7 +42,7 @@ pub extern "C" fn cxlplan_proved_list(
 }
 
 /// The table as `normal` gives it.
-#[tactic(auto, using(crate::proofs::Codes::of_write_fault))]
+#[tactic(auto, using(cxl_library::proofs::Codes::of_write_fault))]
 #[unsafe(no_mangle)]
 pub extern "C" fn cxlplan_proved_normal(
     alloc: Global,
@@ -58,7 +58,7 @@ pub extern "C" fn cxlplan_proved_normal(
 }
 
 /// What `check` tells of a register image.
-#[tactic(auto, using(crate::proofs::Codes::of_write_fault))]
+#[tactic(auto, using(cxl_library::proofs::Codes::of_write_fault))]
 #[unsafe(no_mangle)]
 pub extern "C" fn cxlplan_proved_check(
     alloc: Global,
@@ -76,7 +76,7 @@ pub extern "C" fn cxlplan_proved_check(
 }
 
 /// What `plan` tells of a create line.
-#[tactic(auto, using(crate::proofs::Codes::of_write_fault))]
+#[tactic(auto, using(cxl_library::proofs::Codes::of_write_fault))]
 #[unsafe(no_mangle)]
 pub extern "C" fn cxlplan_proved_plan(
     alloc: Global,
@@ -95,7 +95,7 @@ pub extern "C" fn cxlplan_proved_plan(
 }
 
 /// What `run` answers to the lines of a script, on the host after reset.
-#[tactic(auto, using(crate::proofs::Codes::of_write_fault))]
+#[tactic(auto, using(cxl_library::proofs::Codes::of_write_fault))]
 #[unsafe(no_mangle)]
 pub extern "C" fn cxlplan_proved_run(
     alloc: Global,
@@ -113,7 +113,7 @@ pub extern "C" fn cxlplan_proved_run(
 }
 
 /// What `run` answers to the lines of a script, on the host with the registers of an image.
-#[tactic(auto, using(crate::proofs::Codes::of_write_fault))]
+#[tactic(auto, using(cxl_library::proofs::Codes::of_write_fault))]
 #[unsafe(no_mangle)]
 pub extern "C" fn cxlplan_proved_run_from(
     alloc: Global,
@@ -132,7 +132,7 @@ pub extern "C" fn cxlplan_proved_run_from(
 }
 
 /// What `gen` tells of a generated system.
-#[tactic(auto, using(crate::proofs::Codes::of_write_fault))]
+#[tactic(auto, using(cxl_library::proofs::Codes::of_write_fault))]
 #[unsafe(no_mangle)]
 pub extern "C" fn cxlplan_proved_gen(
     alloc: Global,
@@ -148,7 +148,7 @@ pub extern "C" fn cxlplan_proved_gen(
 }
 
 /// What `--version` tells.
-#[tactic(auto, using(crate::proofs::Codes::of_write_fault))]
+#[tactic(auto, using(cxl_library::proofs::Codes::of_write_fault))]
 #[unsafe(no_mangle)]
 pub extern "C" fn cxlplan_proved_version(alloc: Global, out: &mut [u8], written: &mut usize) -> u8
     ensures answered { IsTold Version (slices [] [] []) [] result (take written.new out.new) }

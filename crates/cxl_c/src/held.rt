@@ -10,7 +10,7 @@ use cxl_library::{HeldText, held_from_image, held_from_reset};
 use std::alloc::Global;
 
 /// The register words that the last line of a script sends on the host after reset, which no command tells.
-#[tactic(auto, using(crate::proofs::Codes::of_write_fault))]
+#[tactic(auto, using(cxl_library::proofs::Codes::of_write_fault))]
 #[unsafe(no_mangle)]
 pub extern "C" fn cxlplan_proved_words(
     alloc: Global,
@@ -28,7 +28,7 @@ pub extern "C" fn cxlplan_proved_words(
 }
 
 /// Those that it sends on the host with the registers of an image.
-#[tactic(auto, using(crate::proofs::Codes::of_write_fault))]
+#[tactic(auto, using(cxl_library::proofs::Codes::of_write_fault))]
 #[unsafe(no_mangle)]
 pub extern "C" fn cxlplan_proved_words_from(
     alloc: Global,
@@ -57,7 +57,7 @@ pub extern "C" fn cxlplan_proved_words_from(
 }
 
 /// The image file of the registers behind a script on the host after reset, which no command tells.
-#[tactic(auto, using(crate::proofs::Codes::of_write_fault))]
+#[tactic(auto, using(cxl_library::proofs::Codes::of_write_fault))]
 #[unsafe(no_mangle)]
 pub extern "C" fn cxlplan_proved_image(
     alloc: Global,
@@ -75,7 +75,7 @@ pub extern "C" fn cxlplan_proved_image(
 }
 
 /// That behind a script on the host with the registers of an image.
-#[tactic(auto, using(crate::proofs::Codes::of_write_fault))]
+#[tactic(auto, using(cxl_library::proofs::Codes::of_write_fault))]
 #[unsafe(no_mangle)]
 pub extern "C" fn cxlplan_proved_image_from(
     alloc: Global,

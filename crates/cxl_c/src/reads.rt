@@ -9,7 +9,7 @@ ghost use Rattle.cxl_library.specs.Reads.{IsReadTold};
 use std::alloc::Global;
 
 /// A topology as lines, which no command tells.
-#[tactic(auto, using(crate::proofs::Codes::of_write_fault))]
+#[tactic(auto, using(cxl_library::proofs::Codes::of_write_fault))]
 #[unsafe(no_mangle)]
 pub extern "C" fn cxlplan_proved_tree(
     alloc: Global,
@@ -25,7 +25,7 @@ pub extern "C" fn cxlplan_proved_tree(
 }
 
 /// The decoders of any image, which no command tells.
-#[tactic(auto, using(crate::proofs::Codes::of_write_fault))]
+#[tactic(auto, using(cxl_library::proofs::Codes::of_write_fault))]
 #[unsafe(no_mangle)]
 pub extern "C" fn cxlplan_proved_decoders(
     alloc: Global,
@@ -42,7 +42,7 @@ pub extern "C" fn cxlplan_proved_decoders(
 }
 
 /// All places that break the first broken rule of an image, which no command tells.
-#[tactic(auto, using(crate::proofs::Codes::of_write_fault))]
+#[tactic(auto, using(cxl_library::proofs::Codes::of_write_fault))]
 #[unsafe(no_mangle)]
 pub extern "C" fn cxlplan_proved_breaches(
     alloc: Global,

@@ -7,7 +7,7 @@ ghost use Rattle.cxl_library.specs.Reads.{IsReadTold};
 use std::alloc::Global;
 
 /// The windows of a table with their verdicts by a topology, which no command tells.
-#[tactic(auto, using(crate::proofs::Codes::of_write_fault))]
+#[tactic(auto, using(cxl_library::proofs::Codes::of_write_fault))]
 #[unsafe(no_mangle)]
 pub extern "C" fn cxlplan_proved_windows(
     alloc: Global,

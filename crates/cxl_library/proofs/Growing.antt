@@ -49,7 +49,7 @@ unready_grows : (s : System) (frames : ℕ) (first last : Devices) (old new : Si
 unready_grows s frames first last old new status (bus starts rose half empty told) = grown_to _ status old new told
 unready_grows s frames first last old new status (memory regs media unhidden is none) = record { text = []; taken = none.taken; quiet = λ _. none.unswallowed }
 
-script_grows : (nodes : List Node) (asked : List Asked) (turns : List Turn) (first last : SourceState) (old new : SinkState) (status : Status)
+pub script_grows : (nodes : List Node) (asked : List Asked) (turns : List Turn) (first last : SourceState) (old new : SinkState) (status : Status)
     → EndsScript nodes asked turns first last old new status → HasGrown status old new
 script_grows nodes asked turns first last old new status (read_out end lines is stops e text source sink) =
     record { text = text_of nodes turns ++ ending_text end; taken = text; quiet = λ _. sink }

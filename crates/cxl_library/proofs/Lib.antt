@@ -1,6 +1,7 @@
+pub mod Codes
 mod FormWords
-mod Growing
-mod Runs
-mod Marks
-mod Telling
+pub mod Growing
+pub mod Runs
+pub mod Marks
+pub mod Telling
 mod LastLine
