@@ -1,0 +1,7 @@
+mod RawBoxes
+mod Handles
+mod Holding
+mod Opened
+mod Rooms
+mod Lines
+mod Unopened
