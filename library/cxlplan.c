@@ -19,6 +19,14 @@ uint8_t cxlplan_proved_breaches(const uint8_t *, size_t, const uint8_t *, size_t
 uint8_t cxlplan_proved_windows(const uint8_t *, size_t, const uint8_t *, size_t, uint8_t *, size_t, size_t *);
 uint8_t cxlplan_proved_gen(uint32_t, uint8_t *, size_t, size_t *);
 uint8_t cxlplan_proved_version(uint8_t *, size_t, size_t *);
+uint8_t cxlplan_proved_session_open(const uint8_t *, size_t, const uint8_t *, size_t, struct cxlplan_session *, uint8_t *, size_t,
+                                    size_t *);
+uint8_t cxlplan_proved_session_open_from(const uint8_t *, size_t, const uint8_t *, size_t, const uint8_t *, size_t,
+                                         struct cxlplan_session *, uint8_t *, size_t, size_t *);
+uint8_t cxlplan_proved_session_act(struct cxlplan_session *, const uint8_t *, size_t, uint8_t *, size_t, size_t *);
+uint8_t cxlplan_proved_session_words(struct cxlplan_session *, struct cxlplan_word *, size_t, size_t *);
+uint8_t cxlplan_proved_session_image(struct cxlplan_session *, uint8_t *, size_t, size_t *);
+void cxlplan_proved_session_close(struct cxlplan_session *);
 
 /* Bytes to be read, and the room for an answer, as a caller passes them. */
 struct bytes {
@@ -214,4 +222,102 @@ int cxlplan_version(void *out, size_t out_len, size_t *written)
     if (!is_fit(NULL, 0, &room, out, out_len, written))
         return CXLPLAN_USAGE;
     return cxlplan_proved_version(room.at, room.len, room.written);
+}
+
+/* A part of memory that a call on a session reads, or writes: then it overlaps no other. */
+struct part {
+    const void *at;
+    size_t len, alignment;
+    int is_written;
+};
+
+/* Whether all parts are objects, aligned, and apart. */
+static int are_fit(const struct part *parts, size_t count)
+{
+    for (size_t i = 0; i < count; i++) {
+        if (is_no_object(parts[i].at, parts[i].len) || (uintptr_t)parts[i].at % parts[i].alignment)
+            return 0;
+        for (size_t j = 0; j < i; j++)
+            if ((parts[i].is_written || parts[j].is_written) && overlap(parts[i].at, parts[i].len, parts[j].at, parts[j].len))
+                return 0;
+    }
+    return 1;
+}
+
+/* As is_fit, for a call on a session: nothing is written before all is found fit. */
+static int is_fit_on(struct cxlplan_session *session, struct bytes *in, size_t count, struct room *room, void *out, size_t out_len,
+                     size_t *written)
+{
+    struct part parts[6] = {{session, sizeof *session, sizeof(void *), 1},
+                            {written, written ? sizeof *written : 0, sizeof *written, 1},
+                            {out, out_len, 1, 1}};
+
+    for (size_t i = 0; i < count; i++)
+        parts[3 + i] = (struct part){in[i].at, in[i].len, 1, 0};
+    if (!session || !are_fit(parts, 3 + count))
+        return 0;
+    room->at = out ? out : &room->none;
+    room->len = out_len;
+    room->written = written ? written : &room->untold;
+    for (size_t i = 0; i < count; i++)
+        if (!in[i].at)
+            in[i].at = nothing;
+    return 1;
+}
+
+int cxlplan_session_open(struct cxlplan_session *session, const void *cedt, size_t cedt_len, const void *topo, size_t topo_len,
+                         const void *image, size_t image_len, void *out, size_t out_len, size_t *written)
+{
+    struct bytes in[] = {{cedt, cedt_len}, {topo, topo_len}, {image, image_len}};
+    struct room room;
+
+    if (!is_fit_on(session, in, 3, &room, out, out_len, written))
+        return CXLPLAN_USAGE;
+    if (!image)
+        return cxlplan_proved_session_open(in[0].at, in[0].len, in[1].at, in[1].len, session, room.at, room.len, room.written);
+    return cxlplan_proved_session_open_from(in[0].at, in[0].len, in[1].at, in[1].len, in[2].at, in[2].len, session, room.at, room.len,
+                                            room.written);
+}
+
+int cxlplan_session_act(struct cxlplan_session *session, const void *lines, size_t lines_len, void *out, size_t out_len,
+                        size_t *written)
+{
+    struct bytes in[] = {{lines, lines_len}};
+    struct room room;
+
+    if (!is_fit_on(session, in, 1, &room, out, out_len, written))
+        return CXLPLAN_USAGE;
+    return cxlplan_proved_session_act(session, in[0].at, in[0].len, room.at, room.len, room.written);
+}
+
+int cxlplan_session_words(struct cxlplan_session *session, struct cxlplan_word *rows, size_t rows_len, size_t *count)
+{
+    struct part parts[] = {{session, sizeof *session, sizeof(void *), 1},
+                           {count, count ? sizeof *count : 0, sizeof *count, 1},
+                           {rows, rows_len * sizeof *rows, sizeof rows->node, 1}};
+    struct cxlplan_word none;
+    size_t untold;
+
+    if (!session || rows_len > PTRDIFF_MAX / sizeof *rows || !are_fit(parts, 3))
+        return CXLPLAN_USAGE;
+    return cxlplan_proved_session_words(session, rows ? rows : &none, rows_len, count ? count : &untold);
+}
+
+int cxlplan_session_image(struct cxlplan_session *session, void *out, size_t out_len, size_t *written)
+{
+    struct room room;
+
+    if (!is_fit_on(session, NULL, 0, &room, out, out_len, written))
+        return CXLPLAN_USAGE;
+    return cxlplan_proved_session_image(session, room.at, room.len, room.written);
+}
+
+int cxlplan_session_close(struct cxlplan_session *session)
+{
+    struct part part = {session, sizeof *session, sizeof(void *), 1};
+
+    if (!session || !are_fit(&part, 1))
+        return CXLPLAN_USAGE;
+    cxlplan_proved_session_close(session);
+    return CXLPLAN_DONE;
 }

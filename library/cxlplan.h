@@ -17,7 +17,8 @@
  * nor these each other; where they do the status is 1, and 0 bytes are written (C).
  *
  * What comes back. The exit status of the command, below. Where the room is too small it is CXLPLAN_WRITE_FAULT, the room is full
- * of the text's front, and the call can be made again with a larger one: no call keeps anything from one to the next.
+ * of the text's front, and the call can be made again with a larger one: no call keeps anything from one to the next, but for those
+ * on a session, at the end of this header.
  *
  * Where it runs. From any thread, also from several at once, each with rooms of its own; not from a signal handler, and not in the
  * forked child of a process with threads, since calls use malloc, realloc and free (C). No call takes more than CXLPLAN_STACK
@@ -149,6 +150,60 @@ int cxlplan_gen(uint32_t number, void *out, size_t out_len, size_t *written);
 
 /* The version of the library, a line, as `cxlplan --version` tells it. Statuses 0, 1, 6, 9. */
 int cxlplan_version(void *out, size_t out_len, size_t *written);
+
+/*
+ * A session that you keep. It is opened once and asked often: a session of many lines takes the time of one run over all of them.
+ *
+ * The handle is a struct of yours, which begins as CXLPLAN_NO_SESSION. You owe four things (C): that it begins so; that nobody but
+ * these calls changes it, and nobody copies it; that one call at a time has it, from whichever thread; and that it is closed in the
+ * end, or its memory is lost. Sessions share nothing, so each thread may have its own.
+ *
+ * Of each call it is proved what its comment tells, from whatever state the session is in, by a clause of the crate cxl_c
+ * (`opened`, `acted`, `told`, `same`), and `within` and `full` as above. With status 1 that comes of the checks in C nothing is
+ * written at all, `*written` neither (C): of a null handle, one that is not aligned, or parts that overlap, the handle among them.
+ * No call takes more of the stack than CXLPLAN_STACK.
+ */
+struct cxlplan_session {
+    void *held; /* not to be looked at, but that it is null where there is no session */
+};
+
+#define CXLPLAN_NO_SESSION {0}
+
+/* A register word that a session sent. */
+struct cxlplan_word {
+    uint32_t node;   /* the number of the node, as cxlplan_tree tells it */
+    uint32_t offset; /* where in the node's block of registers, in bytes */
+    uint32_t value;
+};
+
+/* Opens a session, as cxlplan_run does before its first line: on the host after reset where `image` is null and its length 0 (C), or
+   else on the host with the registers of the image. With status 0 it is open, and there is no text; with any other it is not, and
+   the text says why, as that of cxlplan_run does. A session that is open stays as it is, with status 1 and no text.
+   Statuses 0, 1, 3, 4, 6, 8, 9, 10, 12. */
+int cxlplan_session_open(struct cxlplan_session *session, const void *cedt, size_t cedt_len, const void *topo, size_t topo_len,
+                         const void *image, size_t image_len, void *out, size_t out_len, size_t *written);
+
+/* Carries out lines on a session, one or more, and tells what they are answered, as cxlplan_run tells it of the same lines: a line
+   that is refused ends nothing, and the status is still 0. With status 6 the room is full of the answers' front: the lines up to that
+   whose answer is cut are carried out, and none behind it. With status 9 the session is as the lines before the one that met want of
+   memory left it. With status 1 there is no session, and no text. Status 11 as of cxlplan_run, for the lines of one call.
+   The registers take 65,536 words of one call, and fail behind them: a line that would send more is answered as where a bus fails, so
+   a long script goes in parts, or line by line. Statuses 0, 1, 6, 9, 11. */
+int cxlplan_session_act(struct cxlplan_session *session, const void *lines, size_t lines_len, void *out, size_t out_len,
+                        size_t *written);
+
+/* The register words that the last call of cxlplan_session_act sent, of all its lines, in their order; before the first such call
+   those that opening the session sent. As many from the front as there are rows for are put into `rows`, and the rows behind them stay.
+   `*count` is how many there are, also where there are fewer rows; `count` may be null (C). With status 1 there is no session, and
+   `*count` is 0. Statuses 0, 1. */
+int cxlplan_session_words(struct cxlplan_session *session, struct cxlplan_word *rows, size_t rows_len, size_t *count);
+
+/* The register image of a session as it is: the bytes of an image file, as cxlplan_check takes them, and no text. Its size stays as long
+   as the session is open. With status 1 there is no session. Statuses 0, 1, 6, 9. */
+int cxlplan_session_image(struct cxlplan_session *session, void *out, size_t out_len, size_t *written);
+
+/* Closes a session, and gives its memory back. Where there is none it does nothing. Statuses 0, 1. */
+int cxlplan_session_close(struct cxlplan_session *session);
 
 #ifdef __cplusplus
 }

@@ -287,6 +287,33 @@ class Library(unittest.TestCase):
                              check=False)
         self.assertEqual((ran.returncode, ran.stdout), (0, b""))
 
+    def sessions(self, *libraries):
+        """The program that keeps sessions by handle; it refuses itself memory."""
+        return self.compiled(f"{HERE}/sessions.c", "-pthread", "-Wl,--wrap=malloc,--wrap=realloc,--wrap=free", *libraries)
+
+    def line_by_line(self, words, all_rows):
+        """What a session answers to the lines of each script, given one by one, is what the program answers to the whole."""
+        for row in all_rows:
+            ran = subprocess.run([*words, "lines", *row[1:]], stdout=subprocess.PIPE, stderr=subprocess.PIPE, timeout=SECONDS, check=False)
+            self.assertEqual(ran.stderr, b"")
+            self.compare(row, (ran.returncode, ran.stdout))
+
+    def test_sessions_with_sanitizers(self):
+        made = self.sessions("-fsanitize=address,undefined", STATIC)
+        scripts = [row for row in self.rows if row[0] == "run" and not row[3].endswith("long")]
+        self.assertGreater(len(scripts), 10)
+        self.line_by_line([made], scripts)
+        for what in ("careless", "memory", "threads"):
+            ran = subprocess.run([made, what, *HOST[:2]], stdout=subprocess.PIPE, stderr=subprocess.STDOUT, timeout=SECONDS, check=False)
+            self.assertEqual((ran.returncode, ran.stdout), (0, b""), what)
+
+    def test_sessions_under_valgrind(self):
+        words = self.under_valgrind(self.sessions(SHARED, f"-Wl,-rpath,{BUILT}"))
+        self.line_by_line(words, [row for row in self.rows if row[0] == "run" and row[3].startswith(f"{TOP}/examples/")])
+        for what in ("careless", "threads"):
+            ran = subprocess.run([*words, what, *HOST[:2]], stdout=subprocess.PIPE, stderr=subprocess.STDOUT, timeout=SECONDS, check=False)
+            self.assertEqual((ran.returncode, ran.stdout), (0, b""), what)
+
     def test_rust(self):
         if not shutil.which("rustc"):
             self.skipTest("there is no Rust compiler here")
@@ -318,9 +345,10 @@ class Library(unittest.TestCase):
         self.assertEqual(subprocess.run([made], check=False).returncode, 6)
 
     def test_names(self):
-        """Header, shared library and Python module have the same calls, and the library shows no other name."""
+        """Header, shared library and Python module have the same calls, but for those on sessions, which Python has not, and the
+        library shows no other name."""
         declared = set(re.findall(r"^int (cxlplan_\w+)\(", read(f"{TOP}/library/cxlplan.h").decode(), re.M))
-        self.assertEqual(declared, {f"cxlplan_{it}" for it in _library._TAKES})
+        self.assertEqual({it for it in declared if not it.startswith("cxlplan_session_")}, {f"cxlplan_{it}" for it in _library._TAKES})
         if shutil.which("nm"):
             said = subprocess.run(["nm", "-D", "--defined-only", SHARED], stdout=subprocess.PIPE, check=True).stdout.decode()
             self.assertEqual({line.split()[-1] for line in said.splitlines()}, declared)

@@ -4,4 +4,5 @@
 mod forms;
 mod held;
 mod reads;
+mod sessions;
 mod windows;
