@@ -40,7 +40,8 @@ void *__wrap_malloc(size_t size)
 {
     void *made = is_refused() ? NULL : __real_malloc(size);
 
-    live += is_counted && made;
+    if (is_counted && made)
+        live++;
     return made;
 }
 
@@ -48,13 +49,15 @@ void *__wrap_realloc(void *old, size_t size)
 {
     void *made = is_refused() ? NULL : __real_realloc(old, size);
 
-    live += is_counted && made && !old;
+    if (is_counted && made && !old)
+        live++;
     return made;
 }
 
 void __wrap_free(void *old)
 {
-    live -= is_counted && old;
+    if (is_counted && old)
+        live--;
     __real_free(old);
 }
 
