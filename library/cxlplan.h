@@ -38,8 +38,9 @@ extern "C" {
 /* What a call comes to: the exit status of the command (clause `answered`). */
 enum cxlplan_status {
     CXLPLAN_DONE = 0,        /* it was carried out, and all its text is in the room */
-    CXLPLAN_USAGE = 1,       /* a line or a number asks for nothing; or, before any proved code runs: a null pointer with a
-                                length, a length that no object has, or rooms that overlap (C) */
+    CXLPLAN_USAGE = 1,       /* a line or a number asks for nothing; there is no session, or one already where one is opened; or,
+                                before any proved code runs: a null pointer with a length, a length that no object has, or rooms
+                                that overlap (C) */
     CXLPLAN_FETCH_FAULT = 2, /* never from these calls: all bytes are there */
     CXLPLAN_BAD_TABLE = 3,   /* the table has a fault; the text says which and where */
     CXLPLAN_BAD_TOPO = 4,    /* the topology has a fault; the text says which */
