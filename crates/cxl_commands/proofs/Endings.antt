@@ -77,8 +77,8 @@ module _ (old new : Outside) where
   one_piece_answers (OfWords ask) outcome one answers = one_of_words ask outcome answers.0
 
   pub memory_writes : (form : Form) → has_many_pieces form ≡ false → RunsOut form old new → new.out.taken ≡ old.out.taken
-  memory_writes form one (before some none) = nothing_taken old.out new.out none.taken
-  memory_writes form one (behind outcome answers lines) = nothing_of old.out new.out outcome (one_piece_answers form outcome one answers) lines
+  memory_writes form one (before out none) = nothing_taken old.out new.out none.taken
+  memory_writes form one (behind outcome answers unfailed lines) = nothing_of old.out new.out outcome (one_piece_answers form outcome one answers) lines
 
   -- ---- forms whose outcome is fixed
 

@@ -267,8 +267,8 @@ module _ (old new : Outside) where
   one_file_asked (OfWords ask) file outcome one answers = absurd (cc)
 
   asked_left : (form : Form) → RunsOut form old new → AsksForSome (own_files form) old.files new.files
-  asked_left form (before some none) = some
-  asked_left form (behind outcome answers lines) = asked_answers form outcome answers
+  asked_left form (before some none) = some.asked
+  asked_left form (behind outcome answers unfailed lines) = asked_answers form outcome answers
 
   -- the first of its files are asked for, and no other
   pub some_asked : (form : Form) (status : Status) → IsRunByFiles form old new status → AsksForSome (own_files form) old.files new.files

@@ -2,7 +2,7 @@
 use Rattle.std.proofs.Common.{◌≡◌, true, Option, Some, None, List, [], Result, Ok, Err, refl, sym, ap, subst, inl, inr}
 use Rattle.std.proofs.lemmas.List.{append-nil}
 use Rattle.cxl_inputs.specs.Ends.{Ends, Finishes}
-use Rattle.cxl_inputs.specs.File.{AsksForSome}
+use Rattle.cxl_inputs.specs.File.{RunsOutBehind}
 use Rattle.cxl_inputs.specs.Outcome.{Outcome}
 use Rattle.cxl_inputs.specs.Stop.{IsStop}
 use Rattle.cxl_inputs.specs.declared.status.Status.{Status}
@@ -28,14 +28,14 @@ module _ (form : Form) (old new : Outside) (status : Status) where
   run-finished takes (Err stop.Memory) comes finishes = runs_out takes finishes.0 (before comes finishes.1)
 
 -- a command that stops as a step before it did, whose outcomes answer the form
-pub comes-stopped : (form : Form) (old new : FetchState) (P : Outcome → Type 0) (answer : Result Outcome Stop) (reason : Stop) → answer ≡ Err reason → ((o : Outcome) → P o → IsOutcomeByFiles form old new o) → IsStop P (AsksForSome (own_files form) old new) reason → ComesTo form old new answer
+pub comes-stopped : (form : Form) (old new : FetchState) (P : Outcome → Type 0) (answer : Result Outcome Stop) (reason : Stop) → answer ≡ Err reason → ((o : Outcome) → P o → IsOutcomeByFiles form old new o) → IsStop P (RunsOutBehind (own_files form) old new) reason → ComesTo form old new answer
 comes-stopped form old new P answer reason e follows is =
-    subst (ComesTo form old new) (sym e) (stop-weaker P (IsOutcomeByFiles form old new) (AsksForSome (own_files form) old new) (AsksForSome (own_files form) old new) reason follows (λ out. out) is)
+    subst (ComesTo form old new) (sym e) (stop-weaker P (IsOutcomeByFiles form old new) (RunsOutBehind (own_files form) old new) (RunsOutBehind (own_files form) old new) reason follows (λ out. out) is)
 
 -- a command that memory stopped behind all of its files
-pub comes-out_of_memory : (form : Form) (old new : FetchState) (answer : Result Outcome Stop) (reason : Stop) → answer ≡ Err reason → reason ≡ stop.Memory → AsksForSome (own_files form) old new → ComesTo form old new answer
+pub comes-out_of_memory : (form : Form) (old new : FetchState) (answer : Result Outcome Stop) (reason : Stop) → answer ≡ Err reason → reason ≡ stop.Memory → RunsOutBehind (own_files form) old new → ComesTo form old new answer
 comes-out_of_memory form old new answer reason e memory out =
-    subst (ComesTo form old new) (sym e) (stop-memory (IsOutcomeByFiles form old new) (AsksForSome (own_files form) old new) reason memory out)
+    subst (ComesTo form old new) (sym e) (stop-memory (IsOutcomeByFiles form old new) (RunsOutBehind (own_files form) old new) reason memory out)
 
 pub told-nothing_more : {A : Type 0} (told : Option (List A)) → told ≡ told_with told []
 told-nothing_more None = refl

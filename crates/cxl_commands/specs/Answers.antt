@@ -1,7 +1,7 @@
 -- Which outcome answers a form, by what the outside holds before it and after it.
 use Rattle.std.specs.Prelude.{◌≡◌, List, [], ◌∷◌, Result, Ok, Err}
 use Rattle.cxl_table.specs.CedtFields.{CedtFields}
-use Rattle.cxl_inputs.specs.File.{AsksForSome}
+use Rattle.cxl_inputs.specs.File.{RunsOutBehind}
 use Rattle.cxl_inputs.specs.Host.{host_of, IsByHost}
 use Rattle.cxl_inputs.specs.Outcome.{Outcome}
 use Rattle.cxl_inputs.specs.ResetHost.{reset_host_of, IsByResetHost}
@@ -77,7 +77,7 @@ IsOutcomeOf form old new outcome = IsOutcomeByFiles form old.files new.files out
 
 -- ---- commands that stop early
 
--- a command gives an outcome that answers the form; or memory ran out behind the first of its files
+-- a command gives an outcome that answers the form; or memory ran out behind the first of its files, of which none failed
 abbrev pub ComesTo : Form → FetchState → FetchState → Result Outcome Stop → Type 0
 ComesTo form old new (Ok outcome) = IsOutcomeByFiles form old new outcome
-ComesTo form old new (Err stop) = IsStop (IsOutcomeByFiles form old new) (AsksForSome (own_files form) old new) stop
+ComesTo form old new (Err stop) = IsStop (IsOutcomeByFiles form old new) (RunsOutBehind (own_files form) old new) stop

@@ -11,6 +11,7 @@ use Rattle.cxl_topo.specs.Tree.{Tree}
 use Rattle.cxl_window.specs.Fields.{WindowFields}
 use Rattle.cxl_window.specs.Windows.{windows_of}
 use Rattle.cxl_inputs.specs.Ends.{Finishes}
+use Rattle.cxl_inputs.specs.File.{RunsOutBehind}
 use Rattle.cxl_inputs.specs.Stop.{IsStop}
 use Rattle.cxl_inputs.specs.declared.status.Status.{Status}
 use Rattle.cxl_inputs.specs.declared.stop.Stop.{Stop}
@@ -41,10 +42,10 @@ module _ (cedt topo : List ℕ) (image : Option (List ℕ)) (before after : Fetc
   refused_over s frames host (Ok held) is = tt
   refused_over s frames host (Err status) is = refused s frames host is
 
-  pub stopped : (X : Type 0) (why : Stop) (status : Status) → IsStop (HasNoFiles cedt topo image before after) X why → Finishes (Err why) status old new
-      → OpensNone cedt topo image before after status old new
-  stopped X (stop.Outcome outcome) status is ends = no_host outcome is ends
-  stopped X stop.Memory status is ends = unread ends.0 ends.1
+  pub stopped : (names : List (List ℕ)) (why : Stop) (status : Status) → IsStop (HasNoFiles cedt topo image before after) (RunsOutBehind names before after) why
+      → Finishes (Err why) status old new → OpensNone cedt topo image before after status old new
+  stopped names (stop.Outcome outcome) status is ends = no_host outcome is ends
+  stopped names stop.Memory status is ends = unread ends.0 is.unfailed ends.1
 
 -- a session that opened is one that is kept
 pub kept_over : (s : System) (frames : ℕ) (result : Result Held Status)

@@ -4,6 +4,7 @@ use Rattle.cxl_table.specs.CedtFields.{CedtFields}
 use Rattle.cxl_commands.specs.commands.RefusedStart.{too_many_regions}
 use Rattle.cxl_commands.specs.inner.Reports.{TellsBreach}
 use Rattle.cxl_inputs.specs.Ends.{Ends, WritesNothing}
+use Rattle.cxl_inputs.specs.File.{HasNotFailed}
 use Rattle.cxl_inputs.specs.Host.{AreRead, HasNoHost, host_of}
 use Rattle.cxl_inputs.specs.Outcome.{Outcome}
 use Rattle.cxl_inputs.specs.ResetHost.{AreBothRead, HasNoResetHost, reset_host_of}
@@ -78,10 +79,11 @@ abbrev pub HasNoFiles : List ℕ → List ℕ → Option (List ℕ) → FetchSta
 HasNoFiles cedt topo None old new outcome = HasNoResetHost cedt topo old new outcome
 HasNoFiles cedt topo (Some image) old new outcome = HasNoHost cedt topo image old new outcome
 
--- No session opened: a file has no reading, which is told; or none opened over the host of the files; or memory ran out.
+-- No session opened: a file has no reading, which is told; or none opened over the host of the files; or memory ran out, in which no
+-- fault of the files is hidden.
 pub data OpensNone (cedt topo : List ℕ) (image : Option (List ℕ)) (before after : FetchState) (status : Status) (old new : SinkState) : Type 0 where
   no_host : (outcome : Outcome) → HasNoFiles cedt topo image before after outcome → Ends outcome status old new
       → OpensNone cedt topo image before after status old new
   refused : (s : System) (frames : ℕ) → IsHostOf before.told cedt topo image s frames → IsRefused s status old new
       → OpensNone cedt topo image before after status old new
-  unread : status ≡ Memory → WritesNothing old new → OpensNone cedt topo image before after status old new
+  unread : status ≡ Memory → HasNotFailed before after → WritesNothing old new → OpensNone cedt topo image before after status old new

@@ -4,7 +4,7 @@ use Rattle.cxl_io.specs.Fetch.{FetchState, AsksFor, IsTooLarge}
 use Rattle.cxl_io.specs.Told.{Told, told_with}
 use Rattle.cxl_io.proofs.Writes.{told_with-told_with}
 use Rattle.cxl_topo.specs.declared.node.Node.{Node}
-use Rattle.cxl_inputs.specs.File.{HasNoBytes, not_read, not_small, AsksForSome}
+use Rattle.cxl_inputs.specs.File.{HasNoBytes, not_read, not_small, AsksForSome, HasNotFailed, RunsOutBehind}
 use Rattle.cxl_inputs.specs.Host.{HasNoHost}
 use Rattle.cxl_inputs.specs.Host as host
 use Rattle.cxl_inputs.specs.Image.{IsFaultyImageFile, HasNoImage}
@@ -14,6 +14,7 @@ use Rattle.cxl_inputs.specs.ResetHost.{HasNoResetHost}
 use Rattle.cxl_inputs.specs.ResetHost as reset
 use Rattle.cxl_inputs.specs.Topology.{IsFaultyTreeFile, HasNoTree}
 use Rattle.cxl_inputs.specs.Topology as trees
+use Rattle.cxl_inputs.proofs.Stops.{unfailed_twice}
 
 take_none : (count : ℕ) → take {A = List ℕ} count [] ≡ []
 take_none zero = refl
@@ -48,8 +49,8 @@ module _ (old mid new : FetchState) (names : List (List ℕ)) (asks : AsksFor ol
 
 -- the first two of three names are asked for, or the first three
 module _ (cedt topo image : List ℕ) (old : FetchState) where
-  pub first_of_three : (new : FetchState) → AsksForSome (cedt ∷ topo ∷ []) old new → AsksForSome (cedt ∷ topo ∷ image ∷ []) old new
-  first_of_three new some = at some.count some.asks
+  pub first_of_three : (new : FetchState) → RunsOutBehind (cedt ∷ topo ∷ []) old new → RunsOutBehind (cedt ∷ topo ∷ image ∷ []) old new
+  first_of_three new out = record { asked = at out.asked.count out.asked.asks; unfailed = out.unfailed }
     where
       at : (count : ℕ) → AsksFor old new (take count (cedt ∷ topo ∷ [])) → AsksForSome (cedt ∷ topo ∷ image ∷ []) old new
       at zero asks = record { count = 0; asks = asks }
@@ -60,8 +61,11 @@ module _ (cedt topo image : List ℕ) (old : FetchState) where
   host_behind new outcome (reset.no_table none) = host.no_table none
   host_behind new outcome (reset.no_tree table is none) = host.no_tree table is none
 
-  pub third_of_three : (mid new : FetchState) → AsksFor old mid (cedt ∷ topo ∷ []) → mid.told ≡ old.told → old.faults ≤ mid.faults → AsksForSome (image ∷ []) mid new → AsksForSome (cedt ∷ topo ∷ image ∷ []) old new
-  third_of_three mid new first told counts some = at (one_or_none image mid new some)
+  pub third_of_three : (mid new : FetchState) → AsksFor old mid (cedt ∷ topo ∷ []) → HasNotFailed old mid → mid.told ≡ old.told → old.faults ≤ mid.faults → RunsOutBehind (image ∷ []) mid new → RunsOutBehind (cedt ∷ topo ∷ image ∷ []) old new
+  third_of_three mid new first unfailed told counts out = record {
+    asked = at (one_or_none image mid new out.asked);
+    unfailed = unfailed_twice old mid new unfailed out.unfailed;
+  }
     where
       at : AsksFor mid new [] ⊎ AsksFor mid new (image ∷ []) → AsksForSome (cedt ∷ topo ∷ image ∷ []) old new
       at (inl asks) = record { count = 2; asks = asks_behind old mid new (cedt ∷ topo ∷ []) first told counts [] asks }
@@ -69,15 +73,18 @@ module _ (cedt topo image : List ℕ) (old : FetchState) where
 
 -- the first of two names are asked for
 module _ (cedt topo : List ℕ) (old : FetchState) where
-  pub first_of_two : (new : FetchState) → AsksForSome (cedt ∷ []) old new → AsksForSome (cedt ∷ topo ∷ []) old new
-  first_of_two new some = at (one_or_none cedt old new some)
+  pub first_of_two : (new : FetchState) → RunsOutBehind (cedt ∷ []) old new → RunsOutBehind (cedt ∷ topo ∷ []) old new
+  first_of_two new out = record { asked = at (one_or_none cedt old new out.asked); unfailed = out.unfailed }
     where
       at : AsksFor old new [] ⊎ AsksFor old new (cedt ∷ []) → AsksForSome (cedt ∷ topo ∷ []) old new
       at (inl asks) = record { count = 0; asks = asks }
       at (inr asks) = record { count = 1; asks = asks }
 
-  pub second_of_two : (mid new : FetchState) → AsksFor old mid (cedt ∷ []) → mid.told ≡ old.told → old.faults ≤ mid.faults → AsksForSome (topo ∷ []) mid new → AsksForSome (cedt ∷ topo ∷ []) old new
-  second_of_two mid new first told counts some = at (one_or_none topo mid new some)
+  pub second_of_two : (mid new : FetchState) → AsksFor old mid (cedt ∷ []) → HasNotFailed old mid → mid.told ≡ old.told → old.faults ≤ mid.faults → RunsOutBehind (topo ∷ []) mid new → RunsOutBehind (cedt ∷ topo ∷ []) old new
+  second_of_two mid new first unfailed told counts out = record {
+    asked = at (one_or_none topo mid new out.asked);
+    unfailed = unfailed_twice old mid new unfailed out.unfailed;
+  }
     where
       at : AsksFor mid new [] ⊎ AsksFor mid new (topo ∷ []) → AsksForSome (cedt ∷ topo ∷ []) old new
       at (inl asks) = record { count = 1; asks = asks_behind old mid new (cedt ∷ []) first told counts [] asks }

@@ -1,10 +1,10 @@
 -- Commands that stop early.
-use Rattle.std.proofs.Common.{◌≡◌, List, ℕ, [], ◌∷◌, Result, Err, IfErr, refl, sym, subst}
+use Rattle.std.proofs.Common.{◌≡◌, List, ℕ, [], ◌∷◌, Result, Err, IfErr, refl, sym, ◌∙◌, subst}
 use Rattle.cxl_io.specs.Fetch.{FetchState, AsksFor}
 use Rattle.cxl_io.specs.Sink.{SinkState}
 use Rattle.cxl_io.proofs.Writes.{told_with-nil}
 use Rattle.cxl_inputs.specs.Ends.{WritesNothing}
-use Rattle.cxl_inputs.specs.File.{AsksForSome}
+use Rattle.cxl_inputs.specs.File.{AsksForSome, HasNotFailed, RunsOutBehind}
 use Rattle.cxl_inputs.specs.Outcome.{Outcome}
 use Rattle.cxl_inputs.specs.Stop.{IsStop}
 use Rattle.cxl_inputs.specs.declared.stop.Stop.{Stop}
@@ -28,6 +28,27 @@ stopped-behind P Q M N answer reason e follows out is =
 -- all of one file's names are asked for
 pub asks_one : (file : List ℕ) (old new : FetchState) → AsksFor old new (file ∷ []) → AsksForSome (file ∷ []) old new
 asks_one file old new asks = record { count = 1; asks = asks }
+
+-- memory ran out behind one file, or before it was asked for
+pub out_behind_one : (file : List ℕ) (old new : FetchState) → AsksFor old new (file ∷ []) → HasNotFailed old new → RunsOutBehind (file ∷ []) old new
+out_behind_one file old new asks unfailed = record { asked = asks_one file old new asks; unfailed = unfailed }
+
+-- no call failed where none was made
+pub unfailed_unasked : (files : FetchState) → HasNotFailed files files
+unfailed_unasked files = record { alone = refl; count = λ _. refl }
+
+pub out_before_one : (file : List ℕ) (files : FetchState) → RunsOutBehind (file ∷ []) files files
+out_before_one file files = record {
+  asked = record { count = 0; asks = sym (told_with-nil files.asked) };
+  unfailed = unfailed_unasked files;
+}
+
+-- nor in two steps, where none did in each
+pub unfailed_twice : (old mid new : FetchState) → HasNotFailed old mid → HasNotFailed mid new → HasNotFailed old new
+unfailed_twice old mid new first then = record {
+  alone = then.alone ∙ first.alone;
+  count = λ only. then.count (first.alone ∙ only) ∙ first.count only;
+}
 
 -- nothing is written where nothing happens to the sink
 pub writes_nothing : (sink : SinkState) → WritesNothing sink sink

@@ -1,6 +1,6 @@
 -- What asking for a file comes to, where it gives no bytes.
 use Rattle.std.specs.Prelude.{◌≡◌, ℕ, List, [], ◌∷◌, ◌++◌, take, codes}
-use Rattle.cxl_enc.specs.Faults.{Rose}
+use Rattle.cxl_enc.specs.Faults.{Rose, LeavesCount}
 use Rattle.cxl_io.specs.Fetch.{FetchState, AsksFor, IsTooLarge}
 use Rattle.cxl_reply.specs.Words.{line}
 use Rattle.cxl_inputs.specs.Outcome.{Outcome, one_piece}
@@ -23,6 +23,16 @@ pub data HasNoBytes (before : List (List ℕ)) (file : List ℕ) (old new : Fetc
 pub record AsksForSome (names : List (List ℕ)) (old new : FetchState) : Type 0 where
   pub count : ℕ
   pub asks : AsksFor old new (take count names)
+
+-- no call of the files failed, where their count tells
+pub record HasNotFailed (old new : FetchState) : Type 0 where
+  pub alone : new.counts_failures_alone ≡ old.counts_failures_alone
+  pub count : LeavesCount old.counts_failures_alone old.faults new.faults
+
+-- memory ran out behind the first of these files, and no fault of the files is hidden in it
+pub record RunsOutBehind (names : List (List ℕ)) (old new : FetchState) : Type 0 where
+  pub asked : AsksForSome names old new
+  pub unfailed : HasNotFailed old new
 
 -- one of these names is the last that is asked for, and that failed
 pub record HasFailedFetch (names : List (List ℕ)) (old new : FetchState) : Type 0 where

@@ -2,7 +2,7 @@
 
 ghost use Rattle.std.specs.Prelude.{◌≡◌, ◌≤◌, [], ◌∷◌, IfOk, IfErr, OnOk};
 ghost use Rattle.cxl_io.specs.Fetch.{AsksFor};
-ghost use Rattle.cxl_inputs.specs.File.{AsksForSome};
+ghost use Rattle.cxl_inputs.specs.File.{HasNotFailed, RunsOutBehind};
 ghost use Rattle.cxl_inputs.specs.ResetHost.{AreBothRead, HasNoResetHost};
 ghost use Rattle.cxl_inputs.specs.Stop.{IsStop};
 
@@ -23,8 +23,9 @@ pub(crate) fn fetch_both<F: Fetch>(
 ) -> Result<(TableText, Topo), Stop>
     ensures read { IfOk result (λ both. AreBothRead (F.state files.old).told cedt.now topo.now both.0 both.1) }
     ensures asked { OnOk result (AsksFor (F.state files.old) (F.state files.new) (cedt.now ∷ topo.now ∷ [])) }
+    ensures unfailed { OnOk result (HasNotFailed (F.state files.old) (F.state files.new)) }
     ensures stops { IfErr result (IsStop (HasNoResetHost cedt.now topo.now (F.state files.old) (F.state files.new))
-        (AsksForSome (cedt.now ∷ topo.now ∷ []) (F.state files.old) (F.state files.new))) }
+        (RunsOutBehind (cedt.now ∷ topo.now ∷ []) (F.state files.old) (F.state files.new))) }
     ensures counts { (F.state files.old).faults ≤ (F.state files.new).faults }
     ensures stays { (F.state files.new).told ≡ (F.state files.old).told }
 {

@@ -3,7 +3,7 @@
 ghost use Rattle.std.specs.Prelude.{◌≡◌, ◌≤◌, ⊤, [], ◌∷◌, length, IfOk, IfErr, OnOk};
 ghost use Rattle.cxl_enc.specs.Limits.{file_limit};
 ghost use Rattle.cxl_io.specs.Fetch.{AsksFor, IsFile};
-ghost use Rattle.cxl_inputs.specs.File.{HasNoBytes, AsksForSome, unread, too_large};
+ghost use Rattle.cxl_inputs.specs.File.{HasNoBytes, HasNotFailed, RunsOutBehind, unread, too_large};
 ghost use Rattle.cxl_inputs.specs.Given.{AreTooMany};
 ghost use Rattle.cxl_inputs.specs.Stop.{IsStop};
 
@@ -23,15 +23,19 @@ pub(crate) fn fetch_file<F: Fetch>(
 ) -> Result<Vec<u8>, Stop>
     ensures file { IfOk result (λ bytes. IsFile ((F.state files.old).told file.now) bytes.items) }
     ensures asked { OnOk result (AsksFor (F.state files.old) (F.state files.new) (file.now ∷ [])) }
+    ensures unfailed { OnOk result (HasNotFailed (F.state files.old) (F.state files.new)) }
     ensures stops { IfErr result (IsStop (HasNoBytes [] file.now (F.state files.old) (F.state files.new))
-        (AsksForSome (file.now ∷ []) (F.state files.old) (F.state files.new))) }
+        (RunsOutBehind (file.now ∷ []) (F.state files.old) (F.state files.new))) }
     ensures counts { (F.state files.old).faults ≤ (F.state files.new).faults }
     ensures stays { (F.state files.new).told ≡ (F.state files.old).told }
 {
+    // Both texts are made before the file is asked for, so that what is told of it wants no memory.
+    let unread = unread(alloc, file)?;
+    let too_large = too_large(alloc, file)?;
     match files.fetch(alloc, file) {
         Ok(bytes) => Ok(bytes),
-        Err(FetchFault::Failed) => Err(Stop::of(unread(alloc, file))),
-        Err(FetchFault::TooLarge) => Err(Stop::of(too_large(alloc, file))),
+        Err(FetchFault::Failed) => Err(Stop::Outcome(unread)),
+        Err(FetchFault::TooLarge) => Err(Stop::Outcome(too_large)),
         Err(FetchFault::Memory) => Err(Stop::Memory),
     }
 }

@@ -6,7 +6,7 @@ ghost use Rattle.cxl_image.specs.Images.{HasCapsOf};
 ghost use Rattle.cxl_io.specs.Fetch.{AsksFor};
 ghost use Rattle.cxl_model.specs.System.{IsSystem, system_of, bridge_uids};
 ghost use Rattle.cxl_window.specs.Windows.{windows_of, AreMadeWith};
-ghost use Rattle.cxl_inputs.specs.File.{AsksForSome};
+ghost use Rattle.cxl_inputs.specs.File.{HasNotFailed, RunsOutBehind};
 ghost use Rattle.cxl_inputs.specs.Host.{AreRead, HasNoHost};
 ghost use Rattle.cxl_inputs.specs.Image.{IsImageOf, HasNoImage};
 ghost use Rattle.cxl_inputs.specs.Stop.{IsStop};
@@ -91,8 +91,9 @@ pub fn fetch_host<F: Fetch>(
         × (host.windows.items ≡ windows_of table.records (Some (bridge_uids host.topo.nodes)))) }
     ensures system { IfOk result (λ host. IsSystem (system_of host.image host.topo host.windows.items)) }
     ensures asked { OnOk result (AsksFor (F.state files.old) (F.state files.new) (cedt.now ∷ topo.now ∷ image.now ∷ [])) }
+    ensures unfailed { OnOk result (HasNotFailed (F.state files.old) (F.state files.new)) }
     ensures stops { IfErr result (IsStop (HasNoHost cedt.now topo.now image.now (F.state files.old) (F.state files.new))
-        (AsksForSome (cedt.now ∷ topo.now ∷ image.now ∷ []) (F.state files.old) (F.state files.new))) }
+        (RunsOutBehind (cedt.now ∷ topo.now ∷ image.now ∷ []) (F.state files.old) (F.state files.new))) }
     ensures counts { (F.state files.old).faults ≤ (F.state files.new).faults }
     ensures stays { (F.state files.new).told ≡ (F.state files.old).told }
 {
@@ -115,8 +116,9 @@ fn fetch_over<F: Fetch>(
         × (host.windows.items ≡ windows_of table.now.records (Some (bridge_uids host.topo.nodes)))) }
     ensures system { IfOk result (λ host. IsSystem (system_of host.image host.topo host.windows.items)) }
     ensures asked { OnOk result (AsksFor (F.state files.old) (F.state files.new) (image.now ∷ [])) }
+    ensures unfailed { OnOk result (HasNotFailed (F.state files.old) (F.state files.new)) }
     ensures stops { IfErr result (IsStop (HasNoImage [] image.now topo.nodes (F.state files.old) (F.state files.new))
-        (AsksForSome (image.now ∷ []) (F.state files.old) (F.state files.new))) }
+        (RunsOutBehind (image.now ∷ []) (F.state files.old) (F.state files.new))) }
     ensures counts { (F.state files.old).faults ≤ (F.state files.new).faults }
     ensures stays { (F.state files.new).told ≡ (F.state files.old).told }
 {

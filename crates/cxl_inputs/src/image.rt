@@ -4,7 +4,7 @@ ghost use Rattle.std.specs.Prelude.{◌≡◌, ◌≢◌, ◌≤◌, ⊤, [], �
 ghost use Rattle.cxl_image.specs.Images.{HasCapsOf};
 ghost use Rattle.cxl_image.specs.declared.fault.ImageFault.{ImageFault};
 ghost use Rattle.cxl_io.specs.Fetch.{AsksFor};
-ghost use Rattle.cxl_inputs.specs.File.{AsksForSome};
+ghost use Rattle.cxl_inputs.specs.File.{HasNotFailed, RunsOutBehind};
 ghost use Rattle.cxl_inputs.specs.Image.{IsImageOf, HasNoImage, bad_image, image_fault_word, image_fault_number, IsImageReading};
 ghost use Rattle.cxl_inputs.specs.Given.{HoldNoImage};
 ghost use Rattle.cxl_inputs.specs.Stop.{IsStop};
@@ -29,8 +29,9 @@ pub(crate) fn fetch_image<F: Fetch>(
     ensures image { IfOk result (IsImageOf ((F.state files.old).told file.now) topo.now.nodes) }
     ensures caps { IfOk result (λ image. HasCapsOf image topo.now.nodes) }
     ensures asked { OnOk result (AsksFor (F.state files.old) (F.state files.new) (file.now ∷ [])) }
+    ensures unfailed { OnOk result (HasNotFailed (F.state files.old) (F.state files.new)) }
     ensures stops { IfErr result (IsStop (HasNoImage [] file.now topo.now.nodes (F.state files.old) (F.state files.new))
-        (AsksForSome (file.now ∷ []) (F.state files.old) (F.state files.new))) }
+        (RunsOutBehind (file.now ∷ []) (F.state files.old) (F.state files.new))) }
     ensures counts { (F.state files.old).faults ≤ (F.state files.new).faults }
     ensures stays { (F.state files.new).told ≡ (F.state files.old).told }
 {

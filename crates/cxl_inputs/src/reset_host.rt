@@ -7,7 +7,7 @@ ghost use Rattle.cxl_io.specs.Fetch.{AsksFor};
 ghost use Rattle.cxl_model.specs.Accepted.{IsAccepted};
 ghost use Rattle.cxl_model.specs.System.{IsSystem, system_of, bridge_uids};
 ghost use Rattle.cxl_window.specs.Windows.{windows_of};
-ghost use Rattle.cxl_inputs.specs.File.{AsksForSome};
+ghost use Rattle.cxl_inputs.specs.File.{HasNotFailed, RunsOutBehind};
 ghost use Rattle.cxl_inputs.specs.ResetHost.{AreBothRead, HasNoResetHost};
 ghost use Rattle.cxl_inputs.specs.Stop.{IsStop};
 
@@ -36,8 +36,9 @@ pub fn fetch_reset_host<F: Fetch>(
     ensures system { IfOk result (λ host. IsSystem (system_of host.image host.topo host.windows.items)) }
     ensures accepted { IfOk result (λ host. IsAccepted (system_of host.image host.topo host.windows.items)) }
     ensures asked { OnOk result (AsksFor (F.state files.old) (F.state files.new) (cedt.now ∷ topo.now ∷ [])) }
+    ensures unfailed { OnOk result (HasNotFailed (F.state files.old) (F.state files.new)) }
     ensures stops { IfErr result (IsStop (HasNoResetHost cedt.now topo.now (F.state files.old) (F.state files.new))
-        (AsksForSome (cedt.now ∷ topo.now ∷ []) (F.state files.old) (F.state files.new))) }
+        (RunsOutBehind (cedt.now ∷ topo.now ∷ []) (F.state files.old) (F.state files.new))) }
     ensures counts { (F.state files.old).faults ≤ (F.state files.new).faults }
     ensures stays { (F.state files.new).told ≡ (F.state files.old).told }
 {

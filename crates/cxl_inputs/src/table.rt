@@ -3,7 +3,7 @@
 ghost use Rattle.std.specs.Prelude.{◌≡◌, ◌≢◌, ◌≤◌, ⊤, [], ◌∷◌, IfOk, IfErr, OnOk};
 ghost use Rattle.cxl_cedt.specs.declared.fault.CedtFault.{CedtFault};
 ghost use Rattle.cxl_io.specs.Fetch.{AsksFor};
-ghost use Rattle.cxl_inputs.specs.File.{AsksForSome};
+ghost use Rattle.cxl_inputs.specs.File.{HasNotFailed, RunsOutBehind};
 ghost use Rattle.cxl_inputs.specs.Stop.{IsStop};
 ghost use Rattle.cxl_inputs.specs.Table.{IsTableOf, HasNoTable, bad_table, fault_word, fault_place, IsReading};
 ghost use Rattle.cxl_inputs.specs.Given.{SpellNoTable};
@@ -22,8 +22,9 @@ use std::alloc::Global;
 pub fn fetch_table<F: Fetch>(alloc: Global, file: &str, files: &mut F) -> Result<TableText, Stop>
     ensures table { IfOk result (IsTableOf ((F.state files.old).told file.now)) }
     ensures asked { OnOk result (AsksFor (F.state files.old) (F.state files.new) (file.now ∷ [])) }
+    ensures unfailed { OnOk result (HasNotFailed (F.state files.old) (F.state files.new)) }
     ensures stops { IfErr result (IsStop (HasNoTable file.now (F.state files.old) (F.state files.new))
-        (AsksForSome (file.now ∷ []) (F.state files.old) (F.state files.new))) }
+        (RunsOutBehind (file.now ∷ []) (F.state files.old) (F.state files.new))) }
     ensures counts { (F.state files.old).faults ≤ (F.state files.new).faults }
     ensures stays { (F.state files.new).told ≡ (F.state files.old).told }
 {

@@ -5,7 +5,7 @@ ghost use Rattle.cxl_io.specs.Fetch.{AsksFor};
 ghost use Rattle.cxl_reply.specs.Words.{line};
 ghost use Rattle.cxl_topofile.specs.Places.{place_text};
 ghost use Rattle.cxl_topofile.specs.declared.fault.TopoFault.{TopoFault};
-ghost use Rattle.cxl_inputs.specs.File.{AsksForSome};
+ghost use Rattle.cxl_inputs.specs.File.{HasNotFailed, RunsOutBehind};
 ghost use Rattle.cxl_inputs.specs.Stop.{IsStop};
 ghost use Rattle.cxl_inputs.specs.Topology.{IsTreeOf, HasNoTree, bad_topology, tree_fault_word, tree_fault_node, IsTreeReading};
 ghost use Rattle.cxl_inputs.specs.Given.{StandForNoTree};
@@ -28,8 +28,9 @@ pub(crate) fn fetch_topology<F: Fetch>(
 ) -> Result<Topo, Stop>
     ensures tree { IfOk result (IsTreeOf ((F.state files.old).told file.now)) }
     ensures asked { OnOk result (AsksFor (F.state files.old) (F.state files.new) (file.now ∷ [])) }
+    ensures unfailed { OnOk result (HasNotFailed (F.state files.old) (F.state files.new)) }
     ensures stops { IfErr result (IsStop (HasNoTree [] file.now (F.state files.old) (F.state files.new))
-        (AsksForSome (file.now ∷ []) (F.state files.old) (F.state files.new))) }
+        (RunsOutBehind (file.now ∷ []) (F.state files.old) (F.state files.new))) }
     ensures counts { (F.state files.old).faults ≤ (F.state files.new).faults }
     ensures stays { (F.state files.new).told ≡ (F.state files.old).told }
 {

@@ -13,7 +13,7 @@ use Rattle.cxl_check.specs.declared.fault.Breach.{Breach}
 use Rattle.cxl_enc.specs.Faults.{Rose, LeavesCount, CountsExactly}
 use Rattle.cxl_image.specs.Images.{reset_blocks}
 use Rattle.cxl_inputs.specs.Ends.{Ends, Finishes, WritesNothing}
-use Rattle.cxl_inputs.specs.File.{AsksForSome}
+use Rattle.cxl_inputs.specs.File.{RunsOutBehind}
 use Rattle.cxl_inputs.specs.Host.{AreRead, HasNoHost, host_of, no_host, by_host}
 use Rattle.cxl_inputs.specs.Outcome.{Outcome}
 use Rattle.cxl_inputs.specs.ResetHost.{AreBothRead, HasNoResetHost, reset_host_of, no_reset_host}
@@ -188,10 +188,10 @@ module _ (old new : Outside) (before after : Devices) (status : Status) where
 
   -- no host
   run-unread : (form : Form) (P : Outcome → Type 0) (reason : Stop) → takes_memory form ≡ true → after ≡ before → ((o : Outcome) → P o → IsOutcomeByFiles form old.files new.files o)
-      → IsStop P (AsksForSome (own_files form) old.files new.files) reason → Finishes (Err reason) status old.out new.out → IsRun form old new before after status
+      → IsStop P (RunsOutBehind (own_files form) old.files new.files) reason → Finishes (Err reason) status old.out new.out → IsRun form old new before after status
   run-unread form P reason takes left follows stops finishes =
       unopened (by_files left (run-finished form old new status takes (Err reason)
-      (stop-weaker P (IsOutcomeByFiles form old.files new.files) (AsksForSome (own_files form) old.files new.files) (AsksForSome (own_files form) old.files new.files) reason follows (λ out. out) stops)
+      (stop-weaker P (IsOutcomeByFiles form old.files new.files) (RunsOutBehind (own_files form) old.files new.files) (RunsOutBehind (own_files form) old.files new.files) reason follows (λ out. out) stops)
       finishes))
 
   reset_over : (cedt topo : List ℕ) (table : CedtFields) (tree : Tree) → AreBothRead old.files.told cedt topo table tree → AsksFor old.files new.files (cedt ∷ topo ∷ []) → EndsOver (reset_host_of table tree) tree.frames before after old.out new.out status → IsRun (Script cedt topo None) old new before after status
@@ -207,7 +207,7 @@ module _ (old new : Outside) (before after : Devices) (status : Status) where
       reset_over cedt topo table tree read asks (subst (λ ws. EndsOver (system_of (reset_blocks tree.nodes) tree ws) tree.frames before after old.out new.out status) made
       (subst (λ bs. EndsOver (system_of bs tree windows) tree.frames before after old.out new.out status) reset ends))
 
-  pub reset-unread : (cedt topo : List ℕ) (reason : Stop) → after ≡ before → IsStop (HasNoResetHost cedt topo old.files new.files) (AsksForSome (cedt ∷ topo ∷ []) old.files new.files) reason
+  pub reset-unread : (cedt topo : List ℕ) (reason : Stop) → after ≡ before → IsStop (HasNoResetHost cedt topo old.files new.files) (RunsOutBehind (cedt ∷ topo ∷ []) old.files new.files) reason
       → Finishes (Err reason) status old.out new.out → IsRun (Script cedt topo None) old new before after status
   reset-unread cedt topo reason left stops finishes =
       run-unread (Script cedt topo None) (HasNoResetHost cedt topo old.files new.files) reason refl left (λ o none. no_reset_host none) stops finishes
@@ -230,7 +230,7 @@ module _ (old new : Outside) (before after : Devices) (status : Status) where
   from_image cedt topo image table tree blocks windows read made asks ends =
       image_ends cedt topo image table tree blocks read asks (subst (λ ws. EndsFromImage (system_of blocks tree ws) tree.frames before after old.out new.out status) made ends)
 
-  pub image-unread : (cedt topo image : List ℕ) (reason : Stop) → after ≡ before → IsStop (HasNoHost cedt topo image old.files new.files) (AsksForSome (cedt ∷ topo ∷ image ∷ []) old.files new.files) reason
+  pub image-unread : (cedt topo image : List ℕ) (reason : Stop) → after ≡ before → IsStop (HasNoHost cedt topo image old.files new.files) (RunsOutBehind (cedt ∷ topo ∷ image ∷ []) old.files new.files) reason
       → Finishes (Err reason) status old.out new.out → IsRun (Script cedt topo (Some image)) old new before after status
   image-unread cedt topo image reason left stops finishes =
       run-unread (Script cedt topo (Some image)) (HasNoHost cedt topo image old.files new.files) reason refl left (λ o none. no_host none) stops finishes

@@ -55,8 +55,8 @@ module _ (old new : Outside) where
   regions_of_host cedt topo image outcome (by_host table tree blocks of answer) lines = regions_of_check cedt topo image table tree blocks outcome of answer.1 lines
 
   pub memory_in_check : (cedt topo image : List ℕ) → RunsOut (Check cedt topo image) old new → (new.out.taken ≡ old.out.taken) ⊎ TakesRegions old.files.told cedt topo image old.out new.out
-  memory_in_check cedt topo image (before some none) = inl (nothing_taken old.out new.out none.taken)
-  memory_in_check cedt topo image (behind outcome answers lines) = regions_of_host cedt topo image outcome answers lines
+  memory_in_check cedt topo image (before out none) = inl (nothing_taken old.out new.out none.taken)
+  memory_in_check cedt topo image (behind outcome answers unfailed lines) = regions_of_host cedt topo image outcome answers lines
 
 -- an accepted image's outcome, and that of one with a breach
 module _ (not_both : (s : System) → IsAccepted s → HasFirstBreach s → ⊥) (s : System) (outcome : Outcome) where

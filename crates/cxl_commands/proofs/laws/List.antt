@@ -26,5 +26,5 @@ module _ (old new : Outside) where
       let at = subst (λ o. IsBehind o old.out new.out) answer.1 lines in inr (record { table = table; is_table = of; count = at.count; taken = at.taken })
 
   pub memory_in_list : (file : List ℕ) → RunsOut (Listing file) old new → (new.out.taken ≡ old.out.taken) ⊎ TakesLines (old.files.told file) old.out new.out
-  memory_in_list file (before some none) = inl (nothing_taken old.out new.out none.taken)
-  memory_in_list file (behind outcome answers lines) = lines_of_file file outcome answers lines
+  memory_in_list file (before out none) = inl (nothing_taken old.out new.out none.taken)
+  memory_in_list file (behind outcome answers unfailed lines) = lines_of_file file outcome answers lines

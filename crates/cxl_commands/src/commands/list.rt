@@ -5,7 +5,7 @@ ghost use Rattle.std.specs.List.{filter_map};
 ghost use Rattle.cxl_table.specs.CedtFields.{CedtFields};
 ghost use Rattle.cxl_cedt.specs.RecordTexts.{record_in};
 ghost use Rattle.cxl_inputs.specs.Ends.{IsWritten, Ends};
-ghost use Rattle.cxl_inputs.specs.File.{AsksForSome};
+ghost use Rattle.cxl_inputs.specs.File.{HasNotFailed, RunsOutBehind};
 ghost use Rattle.cxl_inputs.specs.Stop.{IsStop};
 ghost use Rattle.cxl_inputs.specs.Table.{IsReading, IsTableOf, HasNoTable};
 ghost use Rattle.cxl_io.specs.Fetch.{AsksFor};
@@ -58,8 +58,9 @@ fn judged<F: Fetch>(
     ensures table { IfOk result (λ read. IsTableOf ((F.state files.old).told file.now) read.0) }
     ensures windows { IfOk result (λ read. read.1.items ≡ windows_of read.0.records None) }
     ensures asked { OnOk result (AsksFor (F.state files.old) (F.state files.new) (file.now ∷ [])) }
+    ensures unfailed { OnOk result (HasNotFailed (F.state files.old) (F.state files.new)) }
     ensures stops { IfErr result (IsStop (HasNoTable file.now (F.state files.old) (F.state files.new))
-        (AsksForSome (file.now ∷ []) (F.state files.old) (F.state files.new))) }
+        (RunsOutBehind (file.now ∷ []) (F.state files.old) (F.state files.new))) }
     ensures counts { (F.state files.old).faults ≤ (F.state files.new).faults }
     ensures stays { (F.state files.new).told ≡ (F.state files.old).told }
 {

@@ -31,8 +31,8 @@ module _ (n : ℕ) (old new : Outside) (first_seen now : Devices) (status : Stat
   out_by_files : IsRunByFiles (Gen n) old new status → (status ≡ Memory) × Takes old.out new.out []
   out_by_files (writes outcome answers written) = absurd answers.0
   out_by_files (is_cut outcome answers short) = absurd answers.0
-  out_by_files (ways.runs_out takes is (before some none)) = (is, none.taken)
-  out_by_files (ways.runs_out takes is (behind outcome answers lines)) = absurd answers.0
+  out_by_files (ways.runs_out takes is (before out none)) = (is, none.taken)
+  out_by_files (ways.runs_out takes is (behind outcome answers unfailed lines)) = absurd answers.0
 
   fails_so : (s : System) (frames : ℕ) → FailsToOpen s frames first_seen now old.out new.out status → (status ≡ BusFault) ⊎ (status ≡ WriteFault) ⊎ ((status ≡ Memory) × Takes old.out new.out [])
   fails_so s frames (bus starts rose half empty (inl written)) = inl written.status_is

@@ -1,13 +1,13 @@
 use Rattle.std.proofs.Common.{[], ◌∷◌, List, ℕ, Err, ap, ◌∙◌, sym, subst}
 use Rattle.std.proofs.lemmas.Result.{IfOk-from_err, IfOk-weaker, IfErr-weaker, on_ok_weaker, err_from_is_err_and}
 use Rattle.cxl_io.specs.Told.{Told}
-use Rattle.cxl_inputs.specs.File.{AsksForSome}
+use Rattle.cxl_inputs.specs.File.{RunsOutBehind}
 use Rattle.cxl_inputs.specs.Host.{HasNoHost, no_image}
 use Rattle.cxl_inputs.specs.Image.{HasNoImage, IsImageOf}
 use Rattle.cxl_inputs.specs.ResetHost.{HasNoResetHost}
 use Rattle.cxl_inputs.specs.Topology.{IsTreeOf}
 use Rattle.cxl_inputs.proofs.Hosts.{asks_behind, host_behind, image_behind, first_of_three, third_of_three}
-use Rattle.cxl_inputs.proofs.Stops.{stop-weaker, stopped-behind}
+use Rattle.cxl_inputs.proofs.Stops.{stop-weaker, stopped-behind, unfailed_twice}
 use Rattle.cxl_inputs.proofs.host.fetch_host.Goals as goal
 
 pub returns-in_err-table-clause-read : goal.returns-in_err-table-clause-read
@@ -19,6 +19,9 @@ returns-in_err-table-clause-system g c = IfOk-from_err c.from_residual.result _ 
 pub returns-in_err-table-clause-asked : goal.returns-in_err-table-clause-asked
 returns-in_err-table-clause-asked g c = IfOk-from_err c.from_residual.result _ c.from_residual.ensures.0
 
+pub returns-in_err-table-clause-unfailed : goal.returns-in_err-table-clause-unfailed
+returns-in_err-table-clause-unfailed g c = IfOk-from_err c.from_residual.result _ c.from_residual.ensures.0
+
 pub returns-in_err-table-clause-stops : goal.returns-in_err-table-clause-stops
 returns-in_err-table-clause-stops g c =
     let p = err_from_is_err_and c.from_residual.result c.from_residual.ensures.1 in
@@ -28,7 +31,7 @@ returns-in_err-table-clause-stops g c =
     let old = g.F.Fetch.state c.args.files.now in
     let new = g.F.Fetch.state c.fetch_both.new.files in
     stopped-behind (HasNoResetHost cedt topo old new) (HasNoHost cedt topo image old new)
-    (AsksForSome (cedt ∷ topo ∷ []) old new) (AsksForSome (cedt ∷ topo ∷ image ∷ []) old new) c.from_residual.result _ (p.1 ∙ ap Err p.2)
+    (RunsOutBehind (cedt ∷ topo ∷ []) old new) (RunsOutBehind (cedt ∷ topo ∷ image ∷ []) old new) c.from_residual.result _ (p.1 ∙ ap Err p.2)
     (λ o none. host_behind cedt topo image old new o none)
     (first_of_three cedt topo image old new) c.in_err-table.ensures.stops
 
@@ -57,6 +60,13 @@ returns-clause-asked g c =
     on_ok_weaker c.fetch_over-host.result
     (asks_behind old mid new (c.args.cedt.now ∷ c.args.topo.now ∷ []) both.asked both.stays both.counts (c.args.image.now ∷ [])) c.fetch_over-host.ensures.asked
 
+pub returns-clause-unfailed : goal.returns-clause-unfailed
+returns-clause-unfailed g c =
+    let old = g.F.Fetch.state c.args.files.now in
+    let mid = g.F.Fetch.state c.fetch_both.new.files in
+    let new = g.F.Fetch.state c.fetch_over-host.new.files in
+    on_ok_weaker c.fetch_over-host.result (unfailed_twice old mid new c.in_ok-table.ensures.unfailed) c.fetch_over-host.ensures.unfailed
+
 pub returns-clause-stops : goal.returns-clause-stops
 returns-clause-stops g c =
     let cedt = c.args.cedt.now in
@@ -69,7 +79,7 @@ returns-clause-stops g c =
     let both = c.in_ok-table.ensures in
     IfErr-weaker c.fetch_over-host.result _ _
     (λ reason. stop-weaker (HasNoImage [] image nodes mid new) (HasNoHost cedt topo image old new)
-    (AsksForSome (image ∷ []) mid new) (AsksForSome (cedt ∷ topo ∷ image ∷ []) old new) reason
+    (RunsOutBehind (image ∷ []) mid new) (RunsOutBehind (cedt ∷ topo ∷ image ∷ []) old new) reason
     (λ o none. no_image c.in_ok-table.table c.in_ok-table.topo both.read.of_table both.read.of_tree
     (image_behind old mid new (cedt ∷ topo ∷ []) both.asked both.stays both.counts image nodes o none))
-    (third_of_three cedt topo image old mid new both.asked both.stays both.counts)) c.fetch_over-host.ensures.stops
+    (third_of_three cedt topo image old mid new both.asked both.unfailed both.stays both.counts)) c.fetch_over-host.ensures.stops

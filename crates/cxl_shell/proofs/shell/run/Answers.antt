@@ -1,5 +1,5 @@
 use Rattle.std.proofs.Common.{refl, ap, sym, subst}
-use Rattle.cxl_inputs.proofs.Stops.{writes_nothing}
+use Rattle.cxl_inputs.proofs.Stops.{writes_nothing, unfailed_unasked}
 use Rattle.cxl_commands.specs.Form.{runs_session, IsRangedForm}
 use Rattle.cxl_commands.specs.RunByFiles.{runs_out, before}
 use Rattle.cxl_shell.specs.Run.{by_files, unopened}
@@ -31,8 +31,9 @@ returns-in-Ok-clause-route g c = λ file h asked done.
 
 pub returns-in-Err-clause-run : goal.returns-in-Err-clause-run
 returns-in-Err-clause-run g c =
+    let files = g.F.Fetch.state c.args.files.now in
     unopened (by_files refl (runs_out c.in-Err.ensures.memory refl
-    (before (record { count = 0; asks = asks_nothing (g.F.Fetch.state c.args.files.now) }) (writes_nothing (g.K.Sink.state c.args.out.now)))))
+    (before (record { asked = record { count = 0; asks = asks_nothing files }; unfailed = unfailed_unasked files }) (writes_nothing (g.K.Sink.state c.args.out.now)))))
 
 pub returns-in-Err-clause-headline : goal.returns-in-Err-clause-headline
 returns-in-Err-clause-headline g c = c.runs_are_flat.ensures _ _ _ _ _ _ (returns-in-Err-clause-run g c)

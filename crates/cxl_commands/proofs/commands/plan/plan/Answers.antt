@@ -14,7 +14,7 @@ returns-in_err-host-clause-comes g c =
 pub returns-in_err-outcome-clause-comes : goal.returns-in_err-outcome-clause-comes
 returns-in_err-outcome-clause-comes g c =
     let p = err_from_is_err_and c.from_residual-in_err-outcome.result c.from_residual-in_err-outcome.ensures.1 in
-    comes-out_of_memory (forms.Plan c.args.cedt.now c.args.topo.now c.args.create.now) _ _ c.from_residual-in_err-outcome.result _ p.1 p.2 (record { count = 2; asks = c.in_ok-host.ensures.asked })
+    comes-out_of_memory (forms.Plan c.args.cedt.now c.args.topo.now c.args.create.now) _ _ c.from_residual-in_err-outcome.result _ p.1 p.2 (record { asked = record { count = 2; asks = c.in_ok-host.ensures.asked }; unfailed = c.in_ok-host.ensures.unfailed })
 
 pub returns-clause-comes : goal.returns-clause-comes
 returns-clause-comes g c =

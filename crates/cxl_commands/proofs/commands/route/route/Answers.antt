@@ -1,7 +1,7 @@
 use Rattle.std.proofs.Common.{Err, ap, ◌∙◌}
 use Rattle.std.proofs.lemmas.Result.{err_from_is_err_and}
 use Rattle.cxl_inputs.specs.Table.{no_table, by_table}
-use Rattle.cxl_inputs.proofs.Stops.{asks_one}
+use Rattle.cxl_inputs.proofs.Stops.{out_behind_one}
 use Rattle.cxl_commands.specs.Form.{Route}
 use Rattle.cxl_commands.proofs.Stops.{comes-stopped, comes-out_of_memory}
 use Rattle.cxl_commands.proofs.commands.route.route.Goals as goal
@@ -14,7 +14,7 @@ returns-in_err-table-clause-comes g c =
 pub returns-in_err-routed-clause-comes : goal.returns-in_err-routed-clause-comes
 returns-in_err-routed-clause-comes g c =
     let p = err_from_is_err_and c.from_residual-in_err-routed.result c.from_residual-in_err-routed.ensures.1 in
-    comes-out_of_memory (Route c.args.file.now c.args.h) _ _ c.from_residual-in_err-routed.result _ p.1 p.2 (asks_one _ _ _ c.in_ok-table.ensures.asked)
+    comes-out_of_memory (Route c.args.file.now c.args.h) _ _ c.from_residual-in_err-routed.result _ p.1 p.2 (out_behind_one _ _ _ c.in_ok-table.ensures.asked c.in_ok-table.ensures.unfailed)
 
 pub returns-clause-comes : goal.returns-clause-comes
 returns-clause-comes g c = by_table c.in_ok-table.table c.in_ok-table.ensures.table (c.in_ok-table.ensures.asked, c.in_ok-routed.ensures)
