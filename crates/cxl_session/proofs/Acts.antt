@@ -22,6 +22,7 @@ use Rattle.cxl_machine.specs.Trails.{TrailOf}
 use Rattle.cxl_machine.proofs.Fails.{no_call_fails}
 use Rattle.cxl_session.specs.State.{SessionState}
 use Rattle.cxl_session.specs.Standing.{StandsFor, IsAt, HoldsMemory, Stands}
+use Rattle.cxl_session.specs.Outright.{OwesRefusal}
 use Rattle.cxl_session.specs.inner.Answering.{is_access, StandsSomehow, HoldsMachine, HoldsSome, IsWrittenFor, IsTurnFor}
 use Rattle.cxl_session.proofs.Turns.{still}
 
@@ -115,6 +116,10 @@ untouched_by old new same = record {
 -- what takes memory owes no answer
 pub owes_none : {T : Type 0} (command other : Command) (result : Result T Memory) → command ≡ other → takes_memory other ≡ true → takes_memory command ≡ false → IsOk result
 owes_none command other result is takes none = let same = ap takes_memory is in absurd (cc)
+
+-- what is refused outright is answered, whatever the command is called
+pub owes_same : {T : Type 0} (session : SessionState) (command other : Command) (result : Result T Memory) → command ≡ other → OwesRefusal session other result → OwesRefusal session command result
+owes_same session command other result is owes = subst (λ (one : Command). OwesRefusal session one result) (sym is) owes
 
 -- ---- what holds of each reply, or of each error
 

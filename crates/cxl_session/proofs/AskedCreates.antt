@@ -23,12 +23,11 @@ use Rattle.cxl_machine.specs.Creating.{AsksLegally}
 use Rattle.cxl_machine.specs.Jobs.{create_job}
 use Rattle.cxl_machine.specs.Replies.{endpoint_named}
 use Rattle.cxl_request.specs.Endpoints.{first_unknown}
-use Rattle.cxl_request.specs.Requests.{plan_of_line, plan_unless_unknown}
 use Rattle.cxl_machine.specs.Requests.{busy, name_taken, no_endpoint, regions_full, refusal_of_create, job_of_plan, AsksUnrefused, AsksUnless, AsksCreate}
 use Rattle.cxl_machine.proofs.KeepingBegun.{idle}
 use Rattle.cxl_session.specs.State.{JobFields, SessionState, image_in}
 use Rattle.cxl_session.specs.Standing.{StandsFor}
-use Rattle.cxl_session.specs.inner.Creating.{IsEarlyRefusal, IsSought, IsAskedPlan, IsPrepared, IsKeptCreate}
+use Rattle.cxl_session.specs.inner.Creating.{IsSought, IsAskedPlan, IsPrepared, IsKeptCreate}
 use Rattle.cxl_session.proofs.AskedReleases.{place_is, region_at, no_region_at}
 use Rattle.cxl_session.proofs.PendingJobs.{no_job, same_job}
 
@@ -43,11 +42,6 @@ refused_by m create a b c d one two three four =
     ∙ ap (λ (o : Option Reply). first_there (a ∷ o ∷ no_endpoint m create.endpoints ∷ regions_full m ∷ [])) two
     ∙ ap (λ (o : Option Reply). first_there (a ∷ b ∷ o ∷ regions_full m ∷ [])) three
     ∙ ap (λ (o : Option Reply). first_there (a ∷ b ∷ c ∷ o ∷ [])) four)
-
--- what is refused of a line that states ways, while there is room
-pub early : (m : Machine) (create : Create) (unknown : Option Reply) → busy m ≡ None → name_taken m create.name ≡ None → unknown ≡ no_endpoint m create.endpoints → regions_full m ≡ None → IsEarlyRefusal m create unknown
-early m create (Some refusal) idle free is room = sym (refused_by m create None None (Some refusal) None idle free (sym is) room)
-early m create None idle free is room = record { idle = idle; free = free; known = inr (sym is); room = room }
 
 module _ (session : SessionState) (m : Machine) (stands : StandsFor session m) where
   pub busy_is : (own : JobFields) → session.job ≡ Some own → busy m ≡ Some (replies.Busy own.name)
@@ -109,20 +103,17 @@ module _ (session : SessionState) (m : Machine) (stands : StandsFor session m) w
 
 -- ---- the plan that is sought
 
--- what is answered is what the create asks for: a name that no endpoint has is the plan's refusal too
-pub asked_as : (m : Machine) (create : Create) (asked : Result RegionJob Reply) → IsSought m create → AsksUnrefused m create asked → AsksCreate m create asked
-asked_as m create asked first (answer, answers, same) = go (first_unknown m.settled.nodes create.endpoints) refl first.known
-  where
-    by : (o : Option Reply) → no_endpoint m create.endpoints ≡ o → first_there (None ∷ None ∷ o ∷ None ∷ []) ≡ refusal_of_create m create
-    by o is = refused_by m create None None o None first.idle first.free is first.room
+-- nothing is refused before
+none_refused : (m : Machine) (create : Create) → IsSought m create → refusal_of_create m create ≡ None
+none_refused m create first = sym (refused_by m create None None None None first.idle first.free first.known first.room)
 
-    go : (o : Option (List ℕ)) → first_unknown m.settled.nodes create.endpoints ≡ o → (create.ways ≡ None) ⊎ (no_endpoint m create.endpoints ≡ None) → AsksCreate m create asked
-    go None is known = subst (λ (r : Option Reply). AsksUnless m create r asked) (by None (ap (option_map replies.NoEndpoint) is)) (answer, answers, same)
-    go (Some name) is (inl by_name) =
-        let refused : answer ≡ Err (replies.NoEndpoint name) =
-        answers ∙ ap (plan_of_line m.settled create) by_name ∙ ap (plan_unless_unknown m.settled create) is in
-        subst (λ (r : Option Reply). AsksUnless m create r asked) (by (Some (replies.NoEndpoint name)) (ap (option_map replies.NoEndpoint) is)) (same ∙ ap (job_of_plan m) refused)
-    go (Some name) is (inr none) = let own = sym (ap (option_map replies.NoEndpoint) is) ∙ none in absurd (cc)
+-- what is answered is what the create asks for
+pub asked_as : (m : Machine) (create : Create) (asked : Result RegionJob Reply) → IsSought m create → AsksUnrefused m create asked → AsksCreate m create asked
+asked_as m create asked first asks = subst (λ (r : Option Reply). AsksUnless m create r asked) (sym (none_refused m create first)) asks
+
+-- so it is not refused outright
+pub sought_unrefused : (m : Machine) (create : Create) → IsSought m create → is_some (refusal_of_create m create) ≡ true → ⊥
+sought_unrefused m create first refused = false≢true (sym (ap is_some (none_refused m create first)) ∙ refused)
 
 rows_in : JobKind → List Row
 rows_in (Creates rows) = rows

@@ -1,10 +1,10 @@
 -- What is refused before a release begins, in its order.
-use Rattle.std.proofs.Common.{◌≡◌, ℕ, ◌<◌, Bool, List, [], ◌∷◌, map, length, Ok, Err, Option, Some, None, refl, sym, ap, ◌∙◌, arith, inl, inr, cond, ltb}
+use Rattle.std.proofs.Common.{◌≡◌, ℕ, ◌<◌, Bool, true, List, [], ◌∷◌, map, length, Result, Ok, Err, Option, Some, None, refl, sym, ap, ◌∙◌, arith, inl, inr, cond, ltb}
 use Rattle.std.specs.Prelude.{slice_get, find, position, option_map, option_and_then, is_none, if◌then◌else◌}
 use Rattle.std.specs.Option.{option_map_or}
 use Rattle.std.specs.List.{position_or_len}
 use Rattle.std.specs.Str.{bytes_eq}
-use Rattle.std.proofs.lemmas.Bool.{cases_lt, lt-ltb, ltb-true}
+use Rattle.std.proofs.lemmas.Bool.{false≢true, cases_lt, lt-ltb, ltb-true}
 use Rattle.std.proofs.lemmas.List.{length-map}
 use Rattle.std.proofs.lemmas.List.Folds.{find_at}
 use Rattle.std.proofs.lemmas.List.Quantifiers.{position-Some}
@@ -18,6 +18,8 @@ use Rattle.cxl_regs.specs.Registers.{Registers}
 use Rattle.cxl_apply.specs.Releases.{rows_of, first_locked, first_not_last}
 use Rattle.cxl_reply.specs.declared.reply.Reply.{Reply}
 use Rattle.cxl_reply.specs.declared.reply.Reply.TheVariants as replies
+use Rattle.cxl_machine.specs.Regions.{begin_answer}
+use Rattle.cxl_machine.specs.Replies.{is_refusal}
 use Rattle.cxl_legal.specs.Firsts.{first_there}
 use Rattle.cxl_enc.proofs.Lists.{find_passes, item}
 use Rattle.cxl_machine.specs.Machine.{Live, RegionJob, Machine, live_named, place_named, blocks_with}
@@ -133,6 +135,11 @@ module _ (m : Machine) (name : List ℕ) where
           asked = release_asked last ∙ ap (λ (n : ℕ). Ok (release_job m.settled n region)) (sym same);
         }
 
+-- a release that is asked for is not refused
+pub released_unrefused : (m : Machine) (name : List ℕ) (job : RegionJob) → asked_release m name ≡ Ok job → is_refusal (begin_answer m (asked_release m name)).reply ≡ true → ⊥
+released_unrefused m name job asked refused =
+    false≢true (ap (λ (a : Result RegionJob Reply). is_refusal (begin_answer m a).reply) (sym asked) ∙ refused)
+
 -- ---- what a session finds out
 
 -- no job is pending, a region has the name, and these are its rows
@@ -176,6 +183,10 @@ module _ (session : SessionState) (m : Machine) (name : List ℕ) (place : ℕ) 
   found_locked row first = locked_refused m name idle place own.0 own.2 at own.1 row (locked_is_found ∙ first)
 
   module _ (free : find is_locked rows ≡ None) where
+    -- nothing stands against it
+    pub found_asked : find (is_not_last (blocks_alone session.image)) rows ≡ None → (job : RegionJob) × (asked_release m name ≡ Ok job)
+    found_asked top = (release_job m.settled place own.0, release_asked m name idle place own.0 own.2 at own.1 (locked_is_found ∙ free) (last_is_found ∙ top))
+
     pub found_below : (row : Row) → find (is_not_last (blocks_alone session.image)) rows ≡ Some row → asked_release m name ≡ Err (replies.NotLast (spot_of row))
     found_below row first = last_refused m name idle place own.0 own.2 at own.1 (locked_is_found ∙ free) row (last_is_found ∙ first)
 

@@ -7,9 +7,9 @@ use Rattle.std.proofs.lemmas.Bool.{cond-true, cond-false, false≢true}
 use Rattle.std.proofs.lemmas.Slice.Eq.{bytes_eq-Decides}
 use Rattle.cxl_script.specs.declared.command.Pair.{Pair}
 use Rattle.cxl_reply.specs.declared.reply.Reply.TheVariants as replies
-use Rattle.cxl_machine.specs.Copies.{for_two}
+use Rattle.cxl_machine.specs.Copies.{for_two, move_between, move_answer}
 use Rattle.cxl_machine.specs.Machine.{Live, Machine, live_named}
-use Rattle.cxl_machine.specs.Replies.{Answer, stays}
+use Rattle.cxl_machine.specs.Replies.{Answer, stays, is_refusal}
 use Rattle.cxl_session.proofs.AskedReleases.{name_at}
 use Rattle.cxl_session.specs.State.{SessionState}
 use Rattle.cxl_session.specs.inner.Pairs.{AreTwo}
@@ -72,3 +72,8 @@ are_two session m pair first second from to some other here there apart size =
       size = size;
       answers = λ answer. both_there m pair answer from to some other apart (eq-eqb from.found.size to.found.size size);
     }
+
+-- a move between two such regions is not refused
+pub two_unrefused : (session : SessionState) (m : Machine) (pair : Pair) (first second : ℕ) → AreTwo session m pair first second → is_refusal (move_answer m pair).reply ≡ true → ⊥
+two_unrefused session m pair first second two refused =
+    false≢true (ap (λ (a : Answer). is_refusal a.reply) (sym (two.answers (move_between m))) ∙ refused)

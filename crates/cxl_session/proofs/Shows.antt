@@ -1,5 +1,6 @@
 -- The registers of a live region, read word by word.
-use Rattle.std.proofs.Common.{◌≡◌, ℕ, ◌+◌, ◌<◌, ◌≤◌, List, [], ◌∷◌, ◌++◌, map, take, length, get_or, Option, Some, None, refl, sym, ap, ◌∙◌, subst, arith}
+use Rattle.std.proofs.Common.{◌≡◌, ℕ, true, ◌+◌, ◌<◌, ◌≤◌, List, [], ◌∷◌, ◌++◌, map, take, length, get_or, Option, Some, None, refl, sym, ap, ◌∙◌, subst, arith}
+use Rattle.std.proofs.lemmas.Bool.{false≢true}
 use Rattle.std.specs.Prelude.{slice_get, slice_set, unwrap_or, option_map, option_and_then, All, Contains, IsSomeAnd}
 use Rattle.std.specs.Option.{option_map_or, is_some}
 use Rattle.std.specs.List.{filter_map, range_with_len}
@@ -35,7 +36,7 @@ use Rattle.cxl_reply.specs.declared.reply.Reply.TheVariants as replies
 use Rattle.cxl_reply.specs.declared.details.ShownRow.{ShownRow}
 use Rattle.cxl_machine.specs.Machine.{Live, Machine, live_named, present, image_of}
 use Rattle.cxl_machine.specs.Outcomes.{NoFault, ReadFailed}
-use Rattle.cxl_machine.specs.Replies.{stays}
+use Rattle.cxl_machine.specs.Replies.{stays, is_refusal}
 use Rattle.cxl_machine.specs.Reports.{shown, shown_row, show_answer}
 use Rattle.cxl_machine.proofs.Present.{StaysLaw}
 use Rattle.cxl_session.specs.State.{SessionState}
@@ -222,3 +223,9 @@ pub unnamed_turn : (session : SessionState) (name : List ℕ) (regs : RegsState)
     → IsTurnFor session session regs regs media media (commands.Show name) (replies.NoRegion name)
 unnamed_turn session name regs media none = still session regs media (commands.Show name) (replies.NoRegion name)
     (λ m at. (sym (ap (λ (o : Option Live). option_map_or (λ (r : Live). stays m (replies.Shown (shown m r))) o (stays m (replies.NoRegion name))) (none m at.stands)), refl))
+
+-- a region that has it is shown, or a read fails
+pub named_unrefused : (m : Machine) (name : List ℕ) (region : Live) → live_named m name ≡ Some region → is_refusal (show_answer m name).reply ≡ true → ⊥
+named_unrefused m name region named refused =
+    false≢true
+    (ap (λ (o : Option Live). is_refusal (option_map_or (λ (r : Live). stays m (replies.Shown (shown m r))) o (stays m (replies.NoRegion name))).reply) (sym named) ∙ refused)

@@ -2,12 +2,13 @@
 use Rattle.std.proofs.Common.{◌≡◌, ℕ, ◌<◌, Bool, true, false, List, length, Option, Some, None, Ok, Err, refl, sym, ap, ◌∙◌, subst}
 use Rattle.std.specs.Prelude.{slice_get, IsSomeAnd, Contains, if◌then◌else◌}
 use Rattle.std.specs.Option.{option_map_or}
+use Rattle.std.proofs.lemmas.Bool.{false≢true}
 use Rattle.std.proofs.lemmas.Option.{same_Some, slice_get_within}
 use Rattle.cxl_model.specs.declared.found.Found.{Found}
 use Rattle.cxl_walk.specs.Keeping.{KeptFields}
 use Rattle.cxl_reply.specs.declared.reply.Reply.TheVariants as replies
 use Rattle.cxl_machine.specs.Machine.{Live, Machine, has_host, live_at}
-use Rattle.cxl_machine.specs.Replies.{Answer, stays, ends_within, within_region}
+use Rattle.cxl_machine.specs.Replies.{Answer, stays, ends_within, within_region, is_refusal}
 use Rattle.cxl_machine.proofs.KeepingMachines.{live_there}
 use Rattle.cxl_session.specs.State.{SessionState}
 use Rattle.cxl_session.specs.Standing.{IsKeptIn}
@@ -77,3 +78,9 @@ module _ (session : SessionState) (m : Machine) (h len : ℕ) where
 
       pub crosses_by : ends_within found h len ≡ false → IsWithin session m h len (Err replies.CrossesEnd)
       crosses_by past = crosses_is (subst (λ (f : Found). ends_within f h len ≡ false) (found_is session m place holds.0 holds.2 found there) past)
+
+-- an access within a region is not refused, where the region's answer is none
+pub within_unrefused : (session : SessionState) (m : Machine) (h len place : ℕ) (within : IsWithin session m h len (Ok place)) (answer : Live → Answer)
+    → is_refusal (answer within.0).reply ≡ false → is_refusal (within_region m h len answer).reply ≡ true → ⊥
+within_unrefused session m h len place within answer plain refused =
+    false≢true (sym plain ∙ ap (λ (a : Answer). is_refusal a.reply) (sym (within.3 answer)) ∙ refused)

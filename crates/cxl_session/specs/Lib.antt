@@ -1,4 +1,5 @@
 pub mod State
 pub mod Inside
 pub mod Standing
+pub mod Outright
 pub mod inner

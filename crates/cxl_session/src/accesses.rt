@@ -10,12 +10,14 @@ ghost use Rattle.cxl_model.specs.Regions.{IsRegionIn};
 ghost use Rattle.cxl_walk.specs.Keeping.{IsKeptOf};
 ghost use Rattle.cxl_bytes.specs.Bytes.{bytes_at};
 ghost use Rattle.cxl_bytes.specs.Woven.{IsWovenIn, IsWovenSomewhere, HasPieces};
+ghost use Rattle.cxl_script.specs.declared.command.Command.TheVariants as commands;
 ghost use Rattle.cxl_reply.specs.declared.reply.Reply.TheVariants as replies;
 ghost use Rattle.cxl_machine.specs.Machine.{Live, Machine, has_host, region_window};
 ghost use Rattle.cxl_machine.specs.Sound.{IsMachine};
 ghost use Rattle.cxl_machine.specs.Replies.{stays};
 ghost use Rattle.cxl_machine.specs.Accesses.{down_answer, downed, load_answer, range_answer, spread_answer, AnswersUp, TellsHost, via_of};
 ghost use Rattle.cxl_session.specs.Standing.{StandsFor, IsKeptIn};
+ghost use Rattle.cxl_session.specs.Outright.{OwesRefusal};
 ghost use Rattle.cxl_session.specs.inner.Answering.{StandsSomehow, IsReadFor};
 ghost use Rattle.cxl_session.specs.inner.Places.{HasNoneOf};
 
@@ -63,8 +65,9 @@ impl Session {
         requires stands { StandsSomehow self.now (M.state media.now) }
         requires some { 1 ≤ load.len }
         requires few { load.len ≤ access_limit }
-        ensures { OnOk result (IsReadFor self.now (M.state media.now)
+        ensures reads { OnOk result (IsReadFor self.now (M.state media.now)
             (λ m answer. load_answer m load ≡ answer) reply.new) }
+        ensures outright { OwesRefusal self.now (commands.Load load) result }
     {
         regions_lie_in_windows();
         blocks_hold_their_pieces();
@@ -93,8 +96,9 @@ impl Session {
         requires stands { (m : Machine) × StandsFor self.now m × IsMachine m }
         requires some { 1 ≤ reach.len }
         requires few { reach.len ≤ range_limit }
-        ensures { IfOk result (λ reply. (m : Machine) → StandsFor self.now m → IsMachine m
+        ensures tells { IfOk result (λ reply. (m : Machine) → StandsFor self.now m → IsMachine m
             → range_answer m reach ≡ stays m reply) }
+        ensures outright { OwesRefusal self.now (commands.Range reach) result }
     {
         regions_lie_in_windows();
         let place = match self.place_within(reach.h, reach.len) {
@@ -115,8 +119,9 @@ impl Session {
     pub(crate) fn spread(&self, alloc: Global, reach: Reach) -> Result<Reply, Memory>
         requires stands { (m : Machine) × StandsFor self.now m × IsMachine m }
         requires some { 1 ≤ reach.len }
-        ensures { IfOk result (λ reply. (m : Machine) → StandsFor self.now m → IsMachine m
+        ensures tells { IfOk result (λ reply. (m : Machine) → StandsFor self.now m → IsMachine m
             → spread_answer m reach ≡ stays m reply) }
+        ensures outright { OwesRefusal self.now (commands.Spread reach) result }
     {
         regions_lie_in_windows();
         let place = match self.place_within(reach.h, reach.len) {

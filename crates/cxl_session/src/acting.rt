@@ -8,6 +8,7 @@ ghost use Rattle.cxl_machine.specs.Memory.{takes_memory};
 ghost use Rattle.cxl_machine.specs.Replies.{is_refusal};
 ghost use Rattle.cxl_machine.specs.Scripts.{Turn, TakesTurn};
 ghost use Rattle.cxl_session.specs.Standing.{Stands, ForEachMachine, HasTaken};
+ghost use Rattle.cxl_session.specs.Outright.{OwesRefusal};
 ghost use Rattle.cxl_session.specs.inner.Answering.{is_access};
 
 use crate::placing::put_reply;
@@ -47,6 +48,8 @@ impl Session {
         ensures unfailed { OnErr result (HasFailed (R.state regs.old) (R.state regs.new) []) }
         // A command that takes none is answered, also where a store lacks a frame, or a job is pending.
         ensures ready { takes_memory command.now ≡ false → IsOk result }
+        // So is one that is refused outright.
+        ensures outright { OwesRefusal self.old command.now result }
         // Its image is the bus's, over the same host.
         ensures image { self.new.image ≡ (R.state regs.new).blocks }
         ensures host { (self.new.topo ≡ self.old.topo) × (self.new.windows ≡ self.old.windows) }
@@ -85,6 +88,8 @@ impl Session {
         ensures unfailed { OnErr result (HasFailed (R.state regs.old) (R.state regs.new) []) }
         // A command that takes none is answered, also where a store lacks a frame, or a job is pending.
         ensures ready { takes_memory command.now ≡ false → IsOk result }
+        // So is one that is refused outright.
+        ensures outright { OwesRefusal self.old command.now result }
         // Its image is the bus's, over the same host.
         ensures image { self.new.image ≡ (R.state regs.new).blocks }
         ensures host { (self.new.topo ≡ self.old.topo) × (self.new.windows ≡ self.old.windows) }
@@ -121,6 +126,7 @@ impl Session {
             × (M.state media.new ≡ M.state media.old)) }
         ensures unfailed { OnErr result (HasFailed (R.state regs.old) (R.state regs.new) []) }
         ensures ready { takes_memory command.now ≡ false → IsOk result }
+        ensures outright { OwesRefusal self.old command.now result }
         ensures image { self.new.image ≡ (R.state regs.new).blocks }
         ensures host { (self.new.topo ≡ self.old.topo) × (self.new.windows ≡ self.old.windows) }
         ensures counts { (R.state regs.old).faults ≤ (R.state regs.new).faults }
@@ -149,6 +155,7 @@ impl Session {
             × (M.state media.new ≡ M.state media.old)) }
         ensures unfailed { OnErr result (HasFailed (R.state regs.old) (R.state regs.new) []) }
         ensures ready { takes_memory command.now ≡ false → IsOk result }
+        ensures outright { OwesRefusal self.old command.now result }
         ensures image { self.new.image ≡ (R.state regs.new).blocks }
         ensures host { (self.new.topo ≡ self.old.topo) × (self.new.windows ≡ self.old.windows) }
         ensures counts { (R.state regs.old).faults ≤ (R.state regs.new).faults }

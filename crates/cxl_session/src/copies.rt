@@ -3,6 +3,7 @@
 ghost use Rattle.std.specs.Prelude.{◌≡◌, ℕ, ◌+◌, ◌<◌, ◌≤◌, true, List, length, slice_get, IfOk, IfSome, IsSomeAnd, OnErr};
 ghost use Rattle.cxl_enc.specs.Limits.{frame_limit};
 ghost use Rattle.cxl_window.specs.Fields.{WindowFields};
+ghost use Rattle.cxl_script.specs.declared.command.Command.TheVariants as commands;
 ghost use Rattle.cxl_script.specs.declared.command.Pair.{Pair};
 ghost use Rattle.cxl_media.specs.MediaState.{MediaState, frame_count};
 ghost use Rattle.cxl_model.specs.declared.found.Found.{Found};
@@ -16,6 +17,7 @@ ghost use Rattle.cxl_machine.specs.Copies.{copy_answer, move_answer};
 ghost use Rattle.cxl_machine.specs.Sound.{IsMachine};
 ghost use Rattle.cxl_session.specs.State.{SessionState};
 ghost use Rattle.cxl_session.specs.Standing.{StandsFor};
+ghost use Rattle.cxl_session.specs.Outright.{OwesRefusal};
 ghost use Rattle.cxl_session.specs.inner.Answering.{HoldsMachine, HoldsSome, IsWrittenAs, IsWrittenFor};
 ghost use Rattle.cxl_session.specs.inner.Pairs.{IsSideAt, AreTwo, AreForTwo};
 ghost use Rattle.cxl_session.specs.inner.Places.{StandsAt, IsNamedAt};
@@ -43,6 +45,7 @@ impl Session {
         requires { HoldsSome self.now (M.state media.old) }
         ensures answer { IfOk result (λ reply.
             IsWrittenFor self.now (M.state media.old) (M.state media.new) (λ m. move_answer m pair.now) reply) }
+        ensures outright { OwesRefusal self.now (commands.Move pair.now) result }
         ensures refused { IfOk result (λ reply. is_refusal reply ≡ true → M.state media.new ≡ M.state media.old) }
         ensures memory { OnErr result (M.state media.new ≡ M.state media.old) }
     {
@@ -69,6 +72,7 @@ impl Session {
         requires { HoldsSome self.now (M.state media.old) }
         ensures answer { IfOk result (λ reply.
             IsWrittenFor self.now (M.state media.old) (M.state media.new) (λ m. copy_answer m pair.now) reply) }
+        ensures outright { OwesRefusal self.now (commands.Copy pair.now) result }
         ensures refused { IfOk result (λ reply. is_refusal reply ≡ true → M.state media.new ≡ M.state media.old) }
         ensures memory { OnErr result (M.state media.new ≡ M.state media.old) }
     {

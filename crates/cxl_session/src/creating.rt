@@ -16,6 +16,7 @@ ghost use Rattle.cxl_machine.specs.Sound.{IsMachine, IsSettled};
 ghost use Rattle.cxl_session.specs.Inside.{job_fields};
 ghost use Rattle.cxl_session.specs.State.{image_in};
 ghost use Rattle.cxl_session.specs.Standing.{StandsFor, Stands, IsKeptIn};
+ghost use Rattle.cxl_session.specs.Outright.{OwesRefusal};
 ghost use Rattle.cxl_session.specs.inner.Answering.{IsTurnFor};
 ghost use Rattle.cxl_session.specs.inner.Creating.{own_of, IsEarlyRefusal, IsAskedPlan, IsPrepared, IsAskedCreate};
 
@@ -49,6 +50,7 @@ impl Session {
         requires code { StatesGranCode create.now }
         ensures turn { IfOk result (IsTurnFor self.old self.new (R.state regs.old) (R.state regs.new) (M.state media.old)
             (M.state media.new) (commands.Create create.now)) }
+        ensures outright { OwesRefusal self.old (commands.Create create.now) result }
         ensures refused { IfOk result (λ reply. is_refusal reply ≡ true → (self.new ≡ self.old)
             × ((R.state regs.new).blocks ≡ (R.state regs.old).blocks) × (M.state media.new ≡ M.state media.old)) }
         ensures memory { OnErr result ((self.new ≡ self.old) × (R.state regs.new ≡ R.state regs.old)
@@ -71,6 +73,7 @@ impl Session {
         requires code { StatesGranCode create.now }
         ensures turn { IfOk result (λ reply. (regs : RegsState) (media : MediaState)
             → IsTurnFor self.old self.new regs regs media media (commands.BeginCreate create.now) reply) }
+        ensures outright { OwesRefusal self.old (commands.BeginCreate create.now) result }
         ensures refused { IfOk result (λ reply. is_refusal reply ≡ true → self.new ≡ self.old) }
         ensures memory { OnErr result (self.new ≡ self.old) }
         ensures host { (self.new.topo ≡ self.old.topo) × (self.new.windows ≡ self.old.windows) }
@@ -97,6 +100,7 @@ impl Session {
         ensures asked { IfOk result (λ asked. (m : Machine) → StandsFor self.now m → IsMachine m
             → IsAskedCreate m create.now asked) }
         ensures words { IfOk result (λ asked. IfOk asked (λ pending. HasWordsOf self.now.image pending.job.writes)) }
+        ensures outright { OwesRefusal self.now (commands.Create create.now) result }
     {
         creates_are_legal();
         if let Some(refusal) = self.early_refusal(create) {
@@ -110,7 +114,7 @@ impl Session {
         Ok(Ok(pending))
     }
 
-    /// Why a create is refused before a plan is sought. A name that no endpoint has is left to the plan where that asks for it.
+    /// Why a create is refused before a plan is sought. Takes no memory.
     fn early_refusal(&self, create: &Create) -> Option<Reply>
         ensures { (m : Machine) → StandsFor self.now m → IsEarlyRefusal m create.now result }
     {
@@ -120,16 +124,13 @@ impl Session {
         if place_among(&self.names, &create.name).is_some() {
             return Some(Reply::NameTaken(create.name));
         }
+        if let Some(refusal) = self.unknown_endpoint(create) {
+            return Some(refusal);
+        }
         if self.names.len() < REGION_LIMIT {
-            return match create.ways {
-                Some(_) => self.unknown_endpoint(create),
-                None => None,
-            };
+            return None;
         }
-        match self.unknown_endpoint(create) {
-            Some(refusal) => Some(refusal),
-            None => Some(Reply::RegionsFull),
-        }
+        Some(Reply::RegionsFull)
     }
 
     /// The refusal of the first name on a line that no endpoint has.

@@ -15,6 +15,7 @@ ghost use Rattle.cxl_machine.specs.Jobs.{begun};
 ghost use Rattle.cxl_machine.specs.Replies.{is_refusal};
 ghost use Rattle.cxl_session.specs.Inside.{place_in, job_fields};
 ghost use Rattle.cxl_session.specs.Standing.{IsAt, Stands};
+ghost use Rattle.cxl_session.specs.Outright.{OwesRefusal};
 ghost use Rattle.cxl_session.specs.inner.Answering.{IsTurnFor};
 ghost use Rattle.cxl_session.specs.inner.Regions.{session_undone, session_finished, named_region, finished_reply, BeginsRelease, IsTakenBackTo, IsMadeTo, IsLeftByEnd, IsWholeFor, LeavesUndone};
 
@@ -110,6 +111,7 @@ impl Session {
         requires { Stands self.old (R.state regs.old) (M.state media.old) }
         ensures turn { IfOk result (IsTurnFor self.old self.new (R.state regs.old) (R.state regs.new) (M.state media.old)
             (M.state media.new) (commands.Destroy name)) }
+        ensures outright { OwesRefusal self.old (commands.Destroy name) result }
         ensures refused { IfOk result (λ reply. is_refusal reply ≡ true → (self.new ≡ self.old)
             × ((R.state regs.new).blocks ≡ (R.state regs.old).blocks) × (M.state media.new ≡ M.state media.old)) }
         ensures memory { OnErr result ((self.new ≡ self.old) × (R.state regs.new ≡ R.state regs.old)
@@ -166,6 +168,7 @@ impl Session {
         requires { (regs : RegsState) × (media : MediaState) × Stands self.old regs media }
         ensures turn { IfOk result (λ reply. (regs : RegsState) (media : MediaState)
             → IsTurnFor self.old self.new regs regs media media (commands.BeginDestroy name) reply) }
+        ensures outright { OwesRefusal self.old (commands.BeginDestroy name) result }
         ensures refused { IfOk result (λ reply. is_refusal reply ≡ true → self.new ≡ self.old) }
         ensures memory { OnErr result (self.new ≡ self.old) }
         ensures host { (self.new.topo ≡ self.old.topo) × (self.new.windows ≡ self.old.windows) }

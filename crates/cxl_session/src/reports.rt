@@ -5,10 +5,12 @@ ghost use Rattle.std.specs.List.{AllZip};
 ghost use Rattle.cxl_model.specs.declared.poison.Poisoned.{Poisoned};
 ghost use Rattle.cxl_poison.specs.Live.{AreLive};
 ghost use Rattle.cxl_poison.specs.Pieces.{ArePoisonedPieces, AreTouchedPlaces};
+ghost use Rattle.cxl_script.specs.declared.command.Command.TheVariants as commands;
 ghost use Rattle.cxl_machine.specs.Machine.{Machine};
 ghost use Rattle.cxl_machine.specs.Sound.{IsMachine};
 ghost use Rattle.cxl_machine.specs.Replies.{stays};
 ghost use Rattle.cxl_machine.specs.Reports.{AnswersPoison, TouchesLive, poison_reply};
+ghost use Rattle.cxl_session.specs.Outright.{OwesRefusal};
 ghost use Rattle.cxl_session.specs.Standing.{StandsFor};
 
 use crate::session::Session;
@@ -24,8 +26,9 @@ impl Session {
     /// What the records of an endpoint's poison list touch. Takes memory.
     pub(crate) fn poison(&self, alloc: Global, poison: &Poison) -> Result<Reply, Memory>
         requires { (m : Machine) × StandsFor self.now m × IsMachine m }
-        ensures { IfOk result (λ reply. (m : Machine) → StandsFor self.now m → IsMachine m
+        ensures tells { IfOk result (λ reply. (m : Machine) → StandsFor self.now m → IsMachine m
             → AnswersPoison m poison.now (stays m reply)) }
+        ensures outright { OwesRefusal self.now (commands.Poison poison.now) result }
     {
         let Some(endpoint) = self.topo.endpoint(&poison.endpoint) else {
             return Ok(Reply::NoEndpoint(poison.endpoint));

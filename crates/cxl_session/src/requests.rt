@@ -1,10 +1,12 @@
 //! What is asked for before a job begins, and why it is refused.
 
 ghost use Rattle.std.specs.Prelude.{◌≡◌, IfOk};
+ghost use Rattle.cxl_script.specs.declared.command.Command.TheVariants as commands;
 ghost use Rattle.cxl_machine.specs.Machine.{Machine};
 ghost use Rattle.cxl_machine.specs.Sound.{IsMachine};
 ghost use Rattle.cxl_machine.specs.Requests.{spot_of};
 ghost use Rattle.cxl_session.specs.Standing.{StandsFor};
+ghost use Rattle.cxl_session.specs.Outright.{OwesRefusal};
 ghost use Rattle.cxl_session.specs.inner.Requests.{IsAskedRelease};
 
 use crate::rows::{first_locked, first_not_last, region_rows};
@@ -24,14 +26,15 @@ pub(crate) struct Release {
 }
 
 impl Session {
-    /// The release of a region by its name, or why it is refused. Takes memory.
+    /// The release of a region by its name, or why it is refused. Takes memory, once nothing stands against it.
     pub(crate) fn asked_release(
         &self,
         alloc: Global,
         name: Name,
     ) -> Result<Result<Release, Reply>, Memory>
-        ensures { IfOk result (λ asked. (m : Machine) → StandsFor self.now m → IsMachine m
+        ensures asked { IfOk result (λ asked. (m : Machine) → StandsFor self.now m → IsMachine m
             → IsAskedRelease m name asked) }
+        ensures outright { OwesRefusal self.now (commands.Destroy name) result }
     {
         live_regions_stay();
         kept_routes_stay();
@@ -41,13 +44,14 @@ impl Session {
         let Some(place) = place_among(&self.names, &name) else {
             return Ok(Err(Reply::NoRegion(name)));
         };
-        let rows = region_rows(alloc, &self.image, self.kept_at(place).own())?;
-        if let Some(row) = first_locked(&rows) {
+        let own = self.kept_at(place).own();
+        if let Some(row) = first_locked(&self.image, own) {
             return Ok(Err(Reply::Locked(spot(&row))));
         }
-        if let Some(row) = first_not_last(&self.image, &rows) {
+        if let Some(row) = first_not_last(&self.image, own) {
             return Ok(Err(Reply::NotLast(spot(&row))));
         }
+        let rows = region_rows(alloc, &self.image, own)?;
         Ok(Ok(Release { place, rows }))
     }
 }

@@ -22,18 +22,22 @@ pub(crate) fn region_rows(alloc: Global, image: &Image, own: &[Own]) -> Result<V
     Ok(rows)
 }
 
-/// The first row whose decoder is locked.
-pub(crate) fn first_locked(rows: &[Row]) -> Option<Row>
-    ensures { result ≡ find is_locked rows.now }
+/// The first of these rows whose decoder is locked. Takes no memory.
+pub(crate) fn first_locked(image: &Image, own: &[Own]) -> Option<Row>
+    ensures { result ≡ find is_locked (filter_map (row_at image.now) own.now) }
 {
-    rows.iter().copied().find(|row| row.decoder.lock)
+    own.iter()
+        .filter_map(|own| row_at(image, own))
+        .find(|row| row.decoder.lock)
 }
 
-/// The first row above whose decoder another one of its node is committed.
-pub(crate) fn first_not_last(image: &Image, rows: &[Row]) -> Option<Row>
-    ensures { result ≡ find (is_not_last (blocks_alone image.now)) rows.now }
+/// The first of them above whose decoder another one of its node is committed. Takes no memory.
+pub(crate) fn first_not_last(image: &Image, own: &[Own]) -> Option<Row>
+    ensures { result ≡ find (is_not_last (blocks_alone image.now)) (filter_map (row_at image.now) own.now) }
 {
-    rows.iter().copied().find(|row| is_not_last(image, row))
+    own.iter()
+        .filter_map(|own| row_at(image, own))
+        .find(|row| is_not_last(image, row))
 }
 
 /// The row of a decoder, where it stands.

@@ -8,6 +8,7 @@ ghost use Rattle.cxl_media.specs.MediaState.{MediaState};
 ghost use Rattle.cxl_script.specs.declared.command.Command.TheVariants as commands;
 ghost use Rattle.cxl_machine.specs.Reports.{shown_row};
 ghost use Rattle.cxl_session.specs.Standing.{Stands};
+ghost use Rattle.cxl_session.specs.Outright.{OwesRefusal};
 ghost use Rattle.cxl_session.specs.inner.Answering.{IsTurnFor};
 ghost use Rattle.cxl_session.specs.inner.Rows.{IsRowOf};
 
@@ -33,6 +34,7 @@ impl Session {
         requires { (media : MediaState) × Stands self.now (R.state regs.old) media }
         ensures turn { IfOk result (λ reply. (media : MediaState)
             → IsTurnFor self.now self.now (R.state regs.old) (R.state regs.new) media media (commands.Show name) reply) }
+        ensures outright { OwesRefusal self.now (commands.Show name) result }
         ensures untouched { IsUntouched (R.state regs.old) (R.state regs.new) }
         ensures memory { OnErr result (R.state regs.new ≡ R.state regs.old) }
         ensures counts { (R.state regs.old).faults ≤ (R.state regs.new).faults }

@@ -1,5 +1,5 @@
 -- What is asked for before a create begins.
-use Rattle.std.specs.Prelude.{◌≡◌, ◌⊎◌, Option, Some, None, Result, Ok, Err}
+use Rattle.std.specs.Prelude.{◌≡◌, Option, Some, None, Result, Ok, Err}
 use Rattle.cxl_script.specs.declared.command.Create.{Create}
 use Rattle.cxl_reply.specs.declared.reply.Reply.{Reply}
 use Rattle.cxl_regs.specs.Reading.{decoder_ways}
@@ -20,11 +20,11 @@ use Rattle.cxl_session.specs.Standing.{IsKeptIn, IsJobFor}
 abbrev pub own_of : Row → Own
 own_of row = record { node = row.node; index = row.index; ways = decoder_ways row.decoder }
 
--- a plan is sought: nothing stands against it, but maybe a name that no endpoint has, on a line that states no ways
+-- a plan is sought: nothing stands against it
 pub record IsSought (m : Machine) (create : Create) : Type 0 where
   pub idle : busy m ≡ None
   pub free : name_taken m create.name ≡ None
-  pub known : (create.ways ≡ None) ⊎ (no_endpoint m create.endpoints ≡ None)
+  pub known : no_endpoint m create.endpoints ≡ None
   pub room : regions_full m ≡ None
 
 -- what is refused before a plan is sought

@@ -19,6 +19,10 @@ returns-clause-unfailed g c = and_on_err c.act_into.result c.act_into.new.reply 
 pub returns-clause-ready : goal.returns-clause-ready
 returns-clause-ready g c = λ none. and_is_ok c.act_into.result c.act_into.new.reply c.and.result c.and.ensures (c.act_into.ensures.ready none)
 
+pub returns-clause-outright : goal.returns-clause-outright
+returns-clause-outright g c = λ m stands is refused.
+    and_is_ok c.act_into.result c.act_into.new.reply c.and.result c.and.ensures (c.act_into.ensures.outright m stands is refused)
+
 pub returns-clause-image : goal.returns-clause-image
 returns-clause-image g c = c.act_into.ensures.image
 

@@ -7,7 +7,7 @@ use Rattle.cxl_script.specs.declared.command.Command.TheVariants as commands
 use Rattle.cxl_reply.specs.declared.reply.Reply.{Reply}
 use Rattle.cxl_machine.specs.Accesses.{store_answer}
 use Rattle.cxl_session.specs.inner.Answering.{IsWrittenFor}
-use Rattle.cxl_session.proofs.Acts.{of_command, read_turn, write_turn, image_held, some_machine, somehow, holds_some, untouched_by, owes_none, refusal_told, no_access, on_ok_always, err_always}
+use Rattle.cxl_session.proofs.Acts.{of_command, read_turn, write_turn, image_held, some_machine, somehow, holds_some, untouched_by, owes_none, owes_same, refusal_told, no_access, on_ok_always, err_always}
 use Rattle.cxl_session.proofs.session.Session.act_into.Goals as goal
 
 pub load-requires : goal.load-requires
@@ -23,11 +23,12 @@ returns-in-Load g c =
       answer =
           on_ok_weaker c.load.result (λ reads. of_command session session old old media media c.args.command.now (commands.Load c.in-Load.load) c.load.new.reply c.in-Load.is
           (read_turn session old (commands.Load c.in-Load.load) (λ m. refl) media c.load.new.reply
-          (λ m stands is memory. record { unfailing = refl; told = sym (reads m stands is memory) }))) c.load.ensures;
+          (λ m stands is memory. record { unfailing = refl; told = sym (reads m stands is memory) }))) c.load.ensures.reads;
       refused = on_ok_always c.load.result (λ _. (refl, refl, refl));
       memory = err_always c.load.result _ (λ _. (refl, untouched_by old old refl, refl));
       unfailed = err_always c.load.result _ (λ _. fails_nowhere old);
       ready = owes_none c.args.command.now (commands.Load c.in-Load.load) c.load.result c.in-Load.is refl;
+      outright = owes_same c.args.self.now c.args.command.now (commands.Load c.in-Load.load) c.load.result c.in-Load.is c.load.ensures.outright;
       image = image_held session old media c.requires.stands;
       host = (refl, refl);
       counts = le_refl old.faults;
@@ -53,6 +54,7 @@ returns-in-Store g c =
       memory = tt;
       unfailed = tt;
       ready = λ _. cc;
+      outright = λ _ _ _ _. cc;
       image = image_held session old media c.requires.stands;
       host = (refl, refl);
       counts = le_refl old.faults;
@@ -75,6 +77,7 @@ returns-in-Down g c =
       memory = tt;
       unfailed = tt;
       ready = λ _. refl;
+      outright = λ _ _ _ _. refl;
       image = image_held session old media c.requires.stands;
       host = (refl, refl);
       counts = le_refl old.faults;
@@ -97,6 +100,7 @@ returns-in-Up g c =
       memory = tt;
       unfailed = tt;
       ready = λ _. refl;
+      outright = λ _ _ _ _. refl;
       image = image_held session old media c.requires.stands;
       host = (refl, refl);
       counts = le_refl old.faults;
@@ -114,6 +118,7 @@ returns-in_default g c =
       memory = made.memory;
       unfailed = made.unfailed;
       ready = made.ready;
+      outright = made.outright;
       image = made.image;
       host = made.host;
       counts = made.counts;

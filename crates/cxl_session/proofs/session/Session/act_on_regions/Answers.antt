@@ -6,7 +6,7 @@ use Rattle.cxl_script.specs.Grammar.{IsRanged}
 use Rattle.cxl_script.specs.declared.command.Command.TheVariants as commands
 use Rattle.cxl_machine.specs.Copies.{copy_answer, move_answer}
 use Rattle.cxl_session.specs.inner.Answering.{IsTurnFor}
-use Rattle.cxl_session.proofs.Acts.{of_command, of_result, read_turn, write_turn, image_held, some_machine, holds_some, image_after, image_after_result, untouched_by, owes_none, ok_always, err_always}
+use Rattle.cxl_session.proofs.Acts.{of_command, of_result, read_turn, write_turn, image_held, some_machine, holds_some, image_after, image_after_result, untouched_by, owes_none, owes_same, ok_always, err_always}
 use Rattle.cxl_session.proofs.session.Session.act_on_regions.Goals as goal
 
 pub create-requires : goal.create-requires
@@ -28,6 +28,7 @@ returns-in-Create g c =
       memory = IfErr-weaker c.create.result _ _ (λ _ same. (same.0, untouched_by old new same.1, same.2)) c.create.ensures.memory;
       unfailed = IfErr-weaker c.create.result _ _ (λ _ same. fails_same old new same.1) c.create.ensures.memory;
       ready = owes_none c.args.command.now (commands.Create c.in-Create.create) c.create.result c.in-Create.is refl;
+      outright = owes_same c.args.self.now c.args.command.now (commands.Create c.in-Create.create) c.create.result c.in-Create.is c.create.ensures.outright;
       image = image_after_result session next old new media left (commands.Create c.in-Create.create) c.create.result c.requires.stands c.create.ensures.turn (IfErr-weaker c.create.result _ _ (λ _ same. (same.0, same.1)) c.create.ensures.memory);
       host = c.create.ensures.host;
       counts = c.create.ensures.counts;
@@ -52,6 +53,7 @@ returns-in-Destroy g c =
       memory = IfErr-weaker c.destroy.result _ _ (λ _ same. (same.0, untouched_by old new same.1, same.2)) c.destroy.ensures.memory;
       unfailed = IfErr-weaker c.destroy.result _ _ (λ _ same. fails_same old new same.1) c.destroy.ensures.memory;
       ready = owes_none c.args.command.now (commands.Destroy c.in-Destroy.name) c.destroy.result c.in-Destroy.is refl;
+      outright = owes_same c.args.self.now c.args.command.now (commands.Destroy c.in-Destroy.name) c.destroy.result c.in-Destroy.is c.destroy.ensures.outright;
       image = image_after_result session next old new media left (commands.Destroy c.in-Destroy.name) c.destroy.result c.requires.stands c.destroy.ensures.turn (IfErr-weaker c.destroy.result _ _ (λ _ same. (same.0, same.1)) c.destroy.ensures.memory);
       host = c.destroy.ensures.host;
       counts = c.destroy.ensures.counts;
@@ -74,6 +76,7 @@ returns-in-Show g c =
       memory = err_always c.show.result _ (λ _. (refl, c.show.ensures.untouched, refl));
       unfailed = IfErr-weaker c.show.result _ _ (λ _ same. fails_same old new same) c.show.ensures.memory;
       ready = owes_none c.args.command.now (commands.Show c.in-Show.name) c.show.result c.in-Show.is refl;
+      outright = owes_same c.args.self.now c.args.command.now (commands.Show c.in-Show.name) c.show.result c.in-Show.is c.show.ensures.outright;
       image = image_held session old media c.requires.stands ∙ sym c.show.ensures.untouched.blocks;
       host = (refl, refl);
       counts = c.show.ensures.counts;
@@ -91,11 +94,12 @@ returns-in-Poison g c =
       answer =
           of_result session session old old media media c.args.command.now (commands.Poison c.in-Poison.poison) c.poison.result c.in-Poison.is
           (IfOk-weaker c.poison.result _ _ (λ reply reads. read_turn session old (commands.Poison c.in-Poison.poison) (λ m. refl) media reply
-          (λ m stands is memory. (refl, reads m stands is))) c.poison.ensures);
+          (λ m stands is memory. (refl, reads m stands is))) c.poison.ensures.tells);
       refused = ok_always c.poison.result _ (λ _ _. (refl, refl, refl));
       memory = err_always c.poison.result _ (λ _. (refl, untouched_by old old refl, refl));
       unfailed = err_always c.poison.result _ (λ _. fails_nowhere old);
       ready = owes_none c.args.command.now (commands.Poison c.in-Poison.poison) c.poison.result c.in-Poison.is refl;
+      outright = owes_same c.args.self.now c.args.command.now (commands.Poison c.in-Poison.poison) c.poison.result c.in-Poison.is c.poison.ensures.outright;
       image = image_held session old media c.requires.stands;
       host = (refl, refl);
       counts = le_refl old.faults;
@@ -119,6 +123,7 @@ returns-in-BeginCreate g c =
       memory = IfErr-weaker c.begin_create.result _ _ (λ _ same. (same, untouched_by old old refl, refl)) c.begin_create.ensures.memory;
       unfailed = err_always c.begin_create.result _ (λ _. fails_nowhere old);
       ready = owes_none c.args.command.now (commands.BeginCreate c.in-BeginCreate.create) c.begin_create.result c.in-BeginCreate.is refl;
+      outright = owes_same c.args.self.now c.args.command.now (commands.BeginCreate c.in-BeginCreate.create) c.begin_create.result c.in-BeginCreate.is c.begin_create.ensures.outright;
       image = image_after_result session next old old media media (commands.BeginCreate c.in-BeginCreate.create) c.begin_create.result c.requires.stands turn (IfErr-weaker c.begin_create.result _ _ (λ _ same. (same, refl)) c.begin_create.ensures.memory);
       host = c.begin_create.ensures.host;
       counts = le_refl old.faults;
@@ -142,6 +147,7 @@ returns-in-BeginDestroy g c =
       memory = IfErr-weaker c.begin_destroy.result _ _ (λ _ same. (same, untouched_by old old refl, refl)) c.begin_destroy.ensures.memory;
       unfailed = err_always c.begin_destroy.result _ (λ _. fails_nowhere old);
       ready = owes_none c.args.command.now (commands.BeginDestroy c.in-BeginDestroy.name) c.begin_destroy.result c.in-BeginDestroy.is refl;
+      outright = owes_same c.args.self.now c.args.command.now (commands.BeginDestroy c.in-BeginDestroy.name) c.begin_destroy.result c.in-BeginDestroy.is c.begin_destroy.ensures.outright;
       image = image_after_result session next old old media media (commands.BeginDestroy c.in-BeginDestroy.name) c.begin_destroy.result c.requires.stands turn (IfErr-weaker c.begin_destroy.result _ _ (λ _ same. (same, refl)) c.begin_destroy.ensures.memory);
       host = c.begin_destroy.ensures.host;
       counts = le_refl old.faults;
@@ -166,6 +172,7 @@ returns-in-Step g c =
       memory = tt;
       unfailed = tt;
       ready = λ _. refl;
+      outright = λ _ _ _ _. refl;
       image = image_after session next old new media left (commands.Step c.in-Step.steps) c.step.result c.requires.stands c.step.ensures.turn;
       host = c.step.ensures.host;
       counts = c.step.ensures.counts;
@@ -189,6 +196,7 @@ returns-in-Abort g c =
       memory = tt;
       unfailed = tt;
       ready = λ _. refl;
+      outright = λ _ _ _ _. refl;
       image = image_after session next old new media media commands.Abort c.abort.result c.requires.stands (c.abort.ensures.turn media);
       host = c.abort.ensures.host;
       counts = c.abort.ensures.counts;
@@ -207,11 +215,12 @@ returns-in-Range g c =
       answer =
           of_result session session old old media media c.args.command.now (commands.Range c.in-Range.reach) c.range.result c.in-Range.is
           (IfOk-weaker c.range.result _ _ (λ reply reads. read_turn session old (commands.Range c.in-Range.reach) (λ m. refl) media reply
-          (λ m stands is memory. record { unfailing = refl; told = sym (reads m stands is) })) c.range.ensures);
+          (λ m stands is memory. record { unfailing = refl; told = sym (reads m stands is) })) c.range.ensures.tells);
       refused = ok_always c.range.result _ (λ _ _. (refl, refl, refl));
       memory = err_always c.range.result _ (λ _. (refl, untouched_by old old refl, refl));
       unfailed = err_always c.range.result _ (λ _. fails_nowhere old);
       ready = owes_none c.args.command.now (commands.Range c.in-Range.reach) c.range.result c.in-Range.is refl;
+      outright = owes_same c.args.self.now c.args.command.now (commands.Range c.in-Range.reach) c.range.result c.in-Range.is c.range.ensures.outright;
       image = image_held session old media c.requires.stands;
       host = (refl, refl);
       counts = le_refl old.faults;
@@ -229,11 +238,12 @@ returns-in-Spread g c =
       answer =
           of_result session session old old media media c.args.command.now (commands.Spread c.in-Spread.reach) c.spread.result c.in-Spread.is
           (IfOk-weaker c.spread.result _ _ (λ reply reads. read_turn session old (commands.Spread c.in-Spread.reach) (λ m. refl) media reply
-          (λ m stands is memory. record { unfailing = refl; told = sym (reads m stands is) })) c.spread.ensures);
+          (λ m stands is memory. record { unfailing = refl; told = sym (reads m stands is) })) c.spread.ensures.tells);
       refused = ok_always c.spread.result _ (λ _ _. (refl, refl, refl));
       memory = err_always c.spread.result _ (λ _. (refl, untouched_by old old refl, refl));
       unfailed = err_always c.spread.result _ (λ _. fails_nowhere old);
       ready = owes_none c.args.command.now (commands.Spread c.in-Spread.reach) c.spread.result c.in-Spread.is refl;
+      outright = owes_same c.args.self.now c.args.command.now (commands.Spread c.in-Spread.reach) c.spread.result c.in-Spread.is c.spread.ensures.outright;
       image = image_held session old media c.requires.stands;
       host = (refl, refl);
       counts = le_refl old.faults;
@@ -257,6 +267,7 @@ returns-in-Copy g c =
       memory = IfErr-weaker c.copy_region.result _ _ (λ _ same. (refl, untouched_by old old refl, same)) c.copy_region.ensures.memory;
       unfailed = err_always c.copy_region.result _ (λ _. fails_nowhere old);
       ready = owes_none c.args.command.now (commands.Copy c.in-Copy.pair) c.copy_region.result c.in-Copy.is refl;
+      outright = owes_same c.args.self.now c.args.command.now (commands.Copy c.in-Copy.pair) c.copy_region.result c.in-Copy.is c.copy_region.ensures.outright;
       image = image_held session old media c.requires.stands;
       host = (refl, refl);
       counts = le_refl old.faults;
@@ -280,6 +291,7 @@ returns-in-Move g c =
       memory = IfErr-weaker c.move_region.result _ _ (λ _ same. (refl, untouched_by old old refl, same)) c.move_region.ensures.memory;
       unfailed = err_always c.move_region.result _ (λ _. fails_nowhere old);
       ready = owes_none c.args.command.now (commands.Move c.in-Move.pair) c.move_region.result c.in-Move.is refl;
+      outright = owes_same c.args.self.now c.args.command.now (commands.Move c.in-Move.pair) c.move_region.result c.in-Move.is c.move_region.ensures.outright;
       image = image_held session old media c.requires.stands;
       host = (refl, refl);
       counts = le_refl old.faults;

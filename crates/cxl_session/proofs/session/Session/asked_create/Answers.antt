@@ -9,7 +9,7 @@ use Rattle.cxl_machine.specs.Requests.{AsksUnless}
 use Rattle.cxl_machine.specs.Sound.{IsSettled}
 use Rattle.cxl_session.specs.Inside.{job_fields}
 use Rattle.cxl_session.specs.inner.Creating.{IsAskedPlan, IsPrepared}
-use Rattle.cxl_session.proofs.AskedCreates.{unrefused, legal_here, create_here, refused_here}
+use Rattle.cxl_session.proofs.AskedCreates.{unrefused, legal_here, create_here, refused_here, sought_unrefused}
 use Rattle.cxl_session.proofs.session.Session.asked_create.Goals as goal
 
 pub plan_sought-requires-clause-settled : goal.plan_sought-requires-clause-settled
@@ -52,3 +52,12 @@ returns-clause-asked c = λ m stands is.
 pub returns-clause-words : goal.returns-clause-words
 returns-clause-words c =
     subst (λ (s : System). HasWordsOf s.blocks c.in_ok-pending.pending.job.writes) c.host.ensures c.in_ok-pending.ensures.words
+
+pub returns-in_err-plan-clause-outright : goal.returns-in_err-plan-clause-outright
+returns-in_err-plan-clause-outright c = λ m stands is refused. absurd (sought_unrefused m c.args.create.now (c.in_default.ensures m stands) refused)
+
+pub returns-in_err-pending-clause-outright : goal.returns-in_err-pending-clause-outright
+returns-in_err-pending-clause-outright c = λ m stands is refused. absurd (sought_unrefused m c.args.create.now (c.in_default.ensures m stands) refused)
+
+pub returns-in-Some-clause-outright : goal.returns-in-Some-clause-outright
+returns-in-Some-clause-outright c = λ _ _ _ _. refl

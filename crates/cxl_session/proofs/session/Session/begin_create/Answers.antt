@@ -60,3 +60,12 @@ returns-clause-host c = (ap (λ (s : SessionState). s.topo) c.keep.ensures, ap (
 pub keep-requires : goal.keep-requires
 keep-requires c =
     subst (λ (a : Result PendingJob Reply). IfOk a (λ pending. HasWordsOf c.args.self.now.image pending.job.writes)) c.in-Ok.is c.in_ok-pending.ensures.words
+
+pub returns-in_err-pending-clause-outright : goal.returns-in_err-pending-clause-outright
+returns-in_err-pending-clause-outright c = λ m stands is refused. absurd (false≢true (c.in_err-pending.ensures.outright m stands is refused))
+
+pub returns-in-Err-clause-outright : goal.returns-in-Err-clause-outright
+returns-in-Err-clause-outright c = λ _ _ _ _. refl
+
+pub returns-clause-outright : goal.returns-clause-outright
+returns-clause-outright c = λ _ _ _ _. refl

@@ -10,6 +10,7 @@ use Rattle.cxl_machine.specs.Replies.{Answer}
 use Rattle.cxl_session.specs.inner.Answering.{IsWrittenAs}
 use Rattle.cxl_session.proofs.Carrying.{window_within}
 use Rattle.cxl_opening.proofs.Errors.{not_ok, at_any_err}
+use Rattle.cxl_session.proofs.Pairs.{two_unrefused}
 use Rattle.cxl_session.proofs.session.Session.copy_region.Goals as goal
 
 pub side-from-requires : goal.side-from-requires
@@ -173,3 +174,18 @@ copy_bytes-requires-clause-sides g c =
 pub copy_bytes-requires-clause-held : goal.copy_bytes-requires-clause-held
 copy_bytes-requires-clause-held g c =
     subst (λ (ns : List ℕ). AreHeld c.side-from.result.found.now c.side-from.result.window.now (g.M.Media.state c.args.media.now).blocks ns) (sym c.deref.ensures.value) c.in_ok-pieces.ensures
+
+pub returns-in_err-others-clause-outright : goal.returns-in_err-others-clause-outright
+returns-in_err-others-clause-outright g c = λ m stands is refused. absurd (two_unrefused c.args.self.now m c.args.pair.now c.in-Ok.places.0 c.in-Ok.places.1 (c.in-Ok.ensures m stands) refused)
+
+pub returns-in_err-pieces-clause-outright : goal.returns-in_err-pieces-clause-outright
+returns-in_err-pieces-clause-outright g c = λ m stands is refused. absurd (two_unrefused c.args.self.now m c.args.pair.now c.in-Ok.places.0 c.in-Ok.places.1 (c.in-Ok.ensures m stands) refused)
+
+pub returns-in-Err-clause-outright : goal.returns-in-Err-clause-outright
+returns-in-Err-clause-outright g c = λ _ _ _ _. refl
+
+pub returns-clause-outright : goal.returns-clause-outright
+returns-clause-outright g c = λ _ _ _ _. refl
+
+pub returns-then-len-free-clause-outright : goal.returns-then-len-free-clause-outright
+returns-then-len-free-clause-outright g c = λ _ _ _ _. refl

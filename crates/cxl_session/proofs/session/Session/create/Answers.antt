@@ -13,6 +13,7 @@ use Rattle.cxl_session.specs.inner.Creating.{IsAskedCreate}
 use Rattle.cxl_session.specs.inner.Regions.{IsWholeFor, LeavesUndone}
 use Rattle.cxl_session.proofs.Creates.{BeginLaws, begun_at, undone_before, created, create_refused}
 use Rattle.cxl_opening.proofs.Errors.{not_ok, at_any_err}
+use Rattle.std.proofs.lemmas.Bool.{false≢true}
 use Rattle.cxl_session.proofs.session.Session.create.Goals as goal
 
 pub returns-in-Err-clause-turn : goal.returns-in-Err-clause-turn
@@ -96,3 +97,12 @@ returns-clause-counts g c = c.carry_out.ensures.counts
 pub keep-requires : goal.keep-requires
 keep-requires g c =
     subst (λ (a : Result PendingJob Reply). IfOk a (λ pending. HasWordsOf c.args.self.now.image pending.job.writes)) c.in-Ok.is c.in_ok-pending.ensures.words
+
+pub returns-in_err-pending-clause-outright : goal.returns-in_err-pending-clause-outright
+returns-in_err-pending-clause-outright g c = λ m stands is refused. absurd (false≢true (c.in_err-pending.ensures.outright m stands is refused))
+
+pub returns-in-Err-clause-outright : goal.returns-in-Err-clause-outright
+returns-in-Err-clause-outright g c = λ _ _ _ _. refl
+
+pub returns-clause-outright : goal.returns-clause-outright
+returns-clause-outright g c = λ _ _ _ _. refl

@@ -15,26 +15,28 @@ use Rattle.cxl_session.proofs.Begins.{begun_here, begun_from, release_within, ca
 use Rattle.cxl_opening.proofs.Errors.{not_ok, at_any_err}
 use Rattle.cxl_session.proofs.Undoing.{refused_again}
 use Rattle.cxl_session.proofs.Wholes.{destroyed, destroy_refused}
+use Rattle.std.proofs.lemmas.Bool.{false≢true}
+use Rattle.cxl_session.proofs.AskedReleases.{released_unrefused}
 use Rattle.cxl_session.proofs.session.Session.destroy.Goals as goal
 
 pub returns-in-Err-clause-turn : goal.returns-in-Err-clause-turn
 returns-in-Err-clause-turn g c =
     destroy_refused c.args.self.now c.args.name c.in-Err.refusal (g.R.Regs.state c.args.regs.now) (g.M.Media.state c.args.media.now)
-    (λ m stands is. subst (λ (a : Result Release Reply). IsAskedRelease m c.args.name a) c.in-Err.is (c.in_ok-release.ensures m stands is))
+    (λ m stands is. subst (λ (a : Result Release Reply). IsAskedRelease m c.args.name a) c.in-Err.is (c.in_ok-release.ensures.asked m stands is))
 
 pub begin_release-requires-clause-here : goal.begin_release-requires-clause-here
 begin_release-requires-clause-here g c =
     let m : Machine = c.requires.0 in
     let at = c.requires.1 in
     release_within c.args.self.now m c.args.name c.in-Ok.release at.stands
-    (subst (λ (a : Result Release Reply). IsAskedRelease m c.args.name a) c.in-Ok.is (c.in_ok-release.ensures m at.stands at.sound.machine))
+    (subst (λ (a : Result Release Reply). IsAskedRelease m c.args.name a) c.in-Ok.is (c.in_ok-release.ensures.asked m at.stands at.sound.machine))
 
 pub carry_out-requires : goal.carry_out-requires
 carry_out-requires g c =
     let m : Machine = c.requires.0 in
     let at = c.requires.1 in
     let is : IsNamedRelease m c.args.name c.in-Ok.release =
-    subst (λ (a : Result Release Reply). IsAskedRelease m c.args.name a) c.in-Ok.is (c.in_ok-release.ensures m at.stands at.sound.machine) in (
+    subst (λ (a : Result Release Reply). IsAskedRelease m c.args.name a) c.in-Ok.is (c.in_ok-release.ensures.asked m at.stands at.sound.machine) in (
       m,
       release_job m.settled c.in-Ok.release.place is.region,
       begun_here c.jobs_have_one_list_of_writes.ensures.release c.releases_begin_as_machines.ensures.machine c.args.self.now c.begin_release.new.self c.args.name c.in-Ok.release c.in_ok-job.job
@@ -46,7 +48,7 @@ pub returns-clause-turn : goal.returns-clause-turn
 returns-clause-turn g c =
     destroyed c.args.self.now c.begin_release.new.self c.carry_out.new.self c.args.name c.in-Ok.release (g.R.Regs.state c.args.regs.now) (g.R.Regs.state c.carry_out.new.regs)
     (g.M.Media.state c.args.media.now) (g.M.Media.state c.carry_out.new.media) c.carry_out.result
-    (λ m stands is. subst (λ (a : Result Release Reply). IsAskedRelease m c.args.name a) c.in-Ok.is (c.in_ok-release.ensures m stands is))
+    (λ m stands is. subst (λ (a : Result Release Reply). IsAskedRelease m c.args.name a) c.in-Ok.is (c.in_ok-release.ensures.asked m stands is))
     (λ m at is. begun_here c.jobs_have_one_list_of_writes.ensures.release c.releases_begin_as_machines.ensures.machine c.args.self.now c.begin_release.new.self c.args.name c.in-Ok.release c.in_ok-job.job
     c.begin_release.ensures.begun (subst (λ (rows : List Row). AreReleaseWrites rows c.in_ok-job.job.writes) c.deref.ensures.value c.in_ok-job.ensures.writes) c.in_ok-job.ensures.none_done
     m (g.R.Regs.state c.args.regs.now) (g.M.Media.state c.args.media.now) at is)
@@ -57,7 +59,7 @@ returns-clause-refused g c = λ refused.
     let m : Machine = c.requires.0 in
     let at = c.requires.1 in
     let is : IsNamedRelease m c.args.name c.in-Ok.release =
-    subst (λ (a : Result Release Reply). IsAskedRelease m c.args.name a) c.in-Ok.is (c.in_ok-release.ensures m at.stands at.sound.machine) in
+    subst (λ (a : Result Release Reply). IsAskedRelease m c.args.name a) c.in-Ok.is (c.in_ok-release.ensures.asked m at.stands at.sound.machine) in
     let (own, begun, from, fresh) = begun_from c.jobs_have_one_list_of_writes.ensures.release c.releases_begin_as_machines.ensures.machine c.args.self.now c.begin_release.new.self c.args.name c.in-Ok.release c.in_ok-job.job
     c.begin_release.ensures.begun (subst (λ (rows : List Row). AreReleaseWrites rows c.in_ok-job.job.writes) c.deref.ensures.value c.in_ok-job.ensures.writes) c.in_ok-job.ensures.none_done
     m at.stands is in
@@ -70,7 +72,7 @@ release-requires-clause-each g c =
     let at = c.requires.1 in
     subst (λ (blocks : List Registers). All (CanRelease blocks) c.deref.result.now) (ap (λ (s : SessionState). s.image) (sym c.self.view_is))
     (can_release c.args.self.now m c.args.name c.in-Ok.release c.deref.result.now
-    (subst (λ (a : Result Release Reply). IsAskedRelease m c.args.name a) c.in-Ok.is (c.in_ok-release.ensures m at.stands at.sound.machine)) c.deref.ensures.value
+    (subst (λ (a : Result Release Reply). IsAskedRelease m c.args.name a) c.in-Ok.is (c.in_ok-release.ensures.asked m at.stands at.sound.machine)) c.deref.ensures.value
     c.release_releases_its_rows.ensures.rows at.stands at.sound.machine)
 
 pub release-requires-clause-apart : goal.release-requires-clause-apart
@@ -78,7 +80,7 @@ release-requires-clause-apart g c =
     let m : Machine = c.requires.0 in
     let at = c.requires.1 in
     released_apart c.args.self.now m c.args.name c.in-Ok.release c.deref.result.now
-    (subst (λ (a : Result Release Reply). IsAskedRelease m c.args.name a) c.in-Ok.is (c.in_ok-release.ensures m at.stands at.sound.machine)) c.deref.ensures.value
+    (subst (λ (a : Result Release Reply). IsAskedRelease m c.args.name a) c.in-Ok.is (c.in_ok-release.ensures.asked m at.stands at.sound.machine)) c.deref.ensures.value
     c.release_releases_its_rows.ensures.apart
 
 pub begin_release-requires-clause-words : goal.begin_release-requires-clause-words
@@ -136,3 +138,18 @@ returns-clause-host g c =
 
 pub returns-clause-counts : goal.returns-clause-counts
 returns-clause-counts g c = c.carry_out.ensures.counts
+
+pub returns-in_err-release-clause-outright : goal.returns-in_err-release-clause-outright
+returns-in_err-release-clause-outright g c = λ m stands is refused. absurd (false≢true (c.in_err-release.ensures.outright m stands is refused))
+
+pub returns-in_err-job-clause-outright : goal.returns-in_err-job-clause-outright
+returns-in_err-job-clause-outright g c = λ m stands is refused.
+    let own : IsNamedRelease m c.args.name c.in-Ok.release =
+    subst (λ (a : Result Release Reply). IsAskedRelease m c.args.name a) c.in-Ok.is (c.in_ok-release.ensures.asked m stands is) in
+    absurd (released_unrefused m c.args.name _ own.asked refused)
+
+pub returns-in-Err-clause-outright : goal.returns-in-Err-clause-outright
+returns-in-Err-clause-outright g c = λ _ _ _ _. refl
+
+pub returns-clause-outright : goal.returns-clause-outright
+returns-clause-outright g c = λ _ _ _ _. refl

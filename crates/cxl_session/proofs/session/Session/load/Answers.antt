@@ -1,8 +1,8 @@
-use Rattle.std.proofs.Common.{ℕ, Ok, subst}
+use Rattle.std.proofs.Common.{ℕ, Ok, refl, subst}
 use Rattle.std.proofs.lemmas.Result.{on_ok_weaker}
 use Rattle.cxl_machine.specs.Machine.{region_window}
 use Rattle.cxl_session.specs.inner.Answering.{IsWithin}
-use Rattle.cxl_session.proofs.Within.{found_within, kept_within}
+use Rattle.cxl_session.proofs.Within.{found_within, kept_within, within_unrefused}
 use Rattle.cxl_session.proofs.Loads.{lies_from, woven_within, loaded}
 use Rattle.cxl_session.proofs.session.Session.load.Goals as goal
 
@@ -34,10 +34,19 @@ put_loaded-requires-clause-from g c =
     lies_from c.args.self.now m is c.args.load.h c.args.load.len c.in-Ok.place
     (subst (λ (n : ℕ). IsWithin c.args.self.now m c.args.load.h n (Ok c.in-Ok.place)) c.from.ensures (c.in-Ok.ensures m stands is)) c.found_at.result.now c.found_at.ensures
 
-pub returns : goal.returns
-returns g c = on_ok_weaker c.put_loaded.result (λ reads m stands is memory.
+pub returns-clause-reads : goal.returns-clause-reads
+returns-clause-reads g c = on_ok_weaker c.put_loaded.result (λ reads m stands is memory.
     let within : IsWithin c.args.self.now m c.args.load.h c.args.load.len (Ok c.in-Ok.place) =
     subst (λ (n : ℕ). IsWithin c.args.self.now m c.args.load.h n (Ok c.in-Ok.place)) c.from.ensures (c.in-Ok.ensures m stands is) in
     loaded c.regions_lie_in_windows.ensures.there c.blocks_hold_their_pieces.ensures c.args.self.now m is (g.M.Media.state c.args.media.now) memory c.args.load c.in-Ok.place within c.found_at.result.now c.found_at.ensures c.weave-weave.result.now
     (woven_within c.args.self.now m is c.args.load.h c.args.load.len c.in-Ok.place within c.found_at.result.now c.found_at.ensures c.kept_at.result.now c.weave-weave.result.now c.kept_at.ensures c.weave-weave.ensures)
     c.put_loaded.new.reply reads) c.put_loaded.ensures
+
+pub returns-clause-outright : goal.returns-clause-outright
+returns-clause-outright g c = λ m stands is refused.
+    let within : IsWithin c.args.self.now m c.args.load.h c.args.load.len (Ok c.in-Ok.place) =
+    subst (λ (n : ℕ). IsWithin c.args.self.now m c.args.load.h n (Ok c.in-Ok.place)) c.from.ensures (c.in-Ok.ensures m stands is) in
+    absurd (within_unrefused c.args.self.now m c.args.load.h c.args.load.len c.in-Ok.place within _ refl refused)
+
+pub returns-in-Err-clause-outright : goal.returns-in-Err-clause-outright
+returns-in-Err-clause-outright g c = λ _ _ _ _. refl

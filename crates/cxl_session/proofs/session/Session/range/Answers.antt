@@ -1,7 +1,7 @@
-use Rattle.std.proofs.Common.{◌∙◌, arith}
+use Rattle.std.proofs.Common.{◌∙◌, refl, arith}
 use Rattle.cxl_session.proofs.Loads.{lies_from, lies_ends}
 use Rattle.cxl_session.proofs.Ranges.{window_within, region_there, ranged}
-use Rattle.cxl_session.proofs.Within.{found_within}
+use Rattle.cxl_session.proofs.Within.{found_within, within_unrefused}
 use Rattle.cxl_session.proofs.session.Session.range.Goals as goal
 
 pub window_at-window-requires : goal.window_at-window-requires
@@ -22,8 +22,8 @@ extents-requires-clause-from c =
     let (m, stands, is) = c.requires.stands in
     lies_from c.args.self.now m is c.args.reach.h c.args.reach.len c.in-Ok.place (c.in-Ok.ensures m stands is) c.found_at-found.result.now c.found_at-found.ensures
 
-pub returns : goal.returns
-returns c = λ m stands is.
+pub returns-clause-tells : goal.returns-clause-tells
+returns-clause-tells c = λ m stands is.
     ranged c.args.self.now m stands is c.args.reach c.in-Ok.place (c.in-Ok.ensures m stands is) c.found_at-found.result.now c.found_at-found.ensures c.window_at-window.result.now c.window_at-window.ensures
     c.new.result c.in_ok-endpoints.endpoints (c.new.ensures ∙ c.in_ok-extents.ensures.exact) c.in_ok-endpoints.ensures
 
@@ -43,3 +43,11 @@ pub extents-requires-clause-ends : goal.extents-requires-clause-ends
 extents-requires-clause-ends c =
     let (m, stands, is) = c.requires.stands in
     lies_ends c.args.self.now m is c.args.reach.h c.args.reach.len c.in-Ok.place (c.in-Ok.ensures m stands is) c.found_at-found.result.now c.found_at-found.ensures
+
+pub returns-in_err-extents-clause-outright : goal.returns-in_err-extents-clause-outright
+returns-in_err-extents-clause-outright c = λ m stands is refused.
+    absurd (within_unrefused c.args.self.now m c.args.reach.h c.args.reach.len c.in-Ok.place (c.in-Ok.ensures m stands is) _ refl refused)
+
+pub returns-in_err-endpoints-clause-outright : goal.returns-in_err-endpoints-clause-outright
+returns-in_err-endpoints-clause-outright c = λ m stands is refused.
+    absurd (within_unrefused c.args.self.now m c.args.reach.h c.args.reach.len c.in-Ok.place (c.in-Ok.ensures m stands is) _ refl refused)

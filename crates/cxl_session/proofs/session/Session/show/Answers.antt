@@ -11,7 +11,7 @@ use Rattle.cxl_session.specs.State.{SessionState}
 use Rattle.cxl_session.specs.inner.Answering.{IsTurnFor}
 use Rattle.cxl_session.proofs.Acts.{untouched_by}
 use Rattle.cxl_opening.proofs.Errors.{not_ok, at_any_err}
-use Rattle.cxl_session.proofs.Shows.{IsShown, HasRead, rows_stand, shown_turn, unread_turn, unnamed_turn}
+use Rattle.cxl_session.proofs.Shows.{IsShown, HasRead, rows_stand, shown_turn, unread_turn, unnamed_turn, named_unrefused}
 use Rattle.cxl_session.proofs.LiveRegions.{own_there_in, place_in_kept}
 use Rattle.cxl_session.proofs.NodeRows.{rows_are}
 use Rattle.cxl_session.proofs.session.Session.show.Goals as goal
@@ -130,3 +130,21 @@ returns-in-Err-clause-memory g c = tt
 
 pub returns-in-Err-clause-counts : goal.returns-in-Err-clause-counts
 returns-in-Err-clause-counts g c = c.read_rows.ensures.counts
+
+pub returns-in_err-found-clause-outright : goal.returns-in_err-found-clause-outright
+returns-in_err-found-clause-outright g c = λ m stands is refused. let named = c.in-Some.ensures.named m stands in absurd (named_unrefused m c.args.name named.0 named.1 refused)
+
+pub returns-in_err-rows-clause-outright : goal.returns-in_err-rows-clause-outright
+returns-in_err-rows-clause-outright g c = λ m stands is refused. let named = c.in-Some.ensures.named m stands in absurd (named_unrefused m c.args.name named.0 named.1 refused)
+
+pub returns-in_err-room-clause-outright : goal.returns-in_err-room-clause-outright
+returns-in_err-room-clause-outright g c = λ m stands is refused. let named = c.in-Some.ensures.named m stands in absurd (named_unrefused m c.args.name named.0 named.1 refused)
+
+pub returns-in_default-clause-outright : goal.returns-in_default-clause-outright
+returns-in_default-clause-outright g c = λ _ _ _ _. refl
+
+pub returns-in-Ok-clause-outright : goal.returns-in-Ok-clause-outright
+returns-in-Ok-clause-outright g c = λ _ _ _ _. refl
+
+pub returns-in-Err-clause-outright : goal.returns-in-Err-clause-outright
+returns-in-Err-clause-outright g c = λ _ _ _ _. refl

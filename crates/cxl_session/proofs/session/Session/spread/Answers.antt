@@ -1,6 +1,7 @@
+use Rattle.std.proofs.Common.{refl}
 use Rattle.cxl_session.proofs.Loads.{lies_from, lies_ends}
 use Rattle.cxl_session.proofs.Ranges.{window_within, region_there, spreaded}
-use Rattle.cxl_session.proofs.Within.{found_within}
+use Rattle.cxl_session.proofs.Within.{found_within, within_unrefused}
 use Rattle.cxl_session.proofs.session.Session.spread.Goals as goal
 
 pub window_at-requires : goal.window_at-requires
@@ -21,8 +22,8 @@ spread-bytes-requires-clause-from c =
     let (m, stands, is) = c.requires.stands in
     lies_from c.args.self.now m is c.args.reach.h c.args.reach.len c.in-Ok.place (c.in-Ok.ensures m stands is) c.found_at-found.result.now c.found_at-found.ensures
 
-pub returns : goal.returns
-returns c = λ m stands is.
+pub returns-clause-tells : goal.returns-clause-tells
+returns-clause-tells c = λ m stands is.
     spreaded c.args.self.now m stands is c.args.reach c.in-Ok.place (c.in-Ok.ensures m stands is) c.found_at-found.result.now c.found_at-found.ensures c.window_at.result.now c.window_at.ensures
     c.spread-bytes.result c.in_ok-endpoints.endpoints c.spread-bytes.ensures.exact c.in_ok-endpoints.ensures
 
@@ -39,3 +40,7 @@ pub spread-bytes-requires-clause-ends : goal.spread-bytes-requires-clause-ends
 spread-bytes-requires-clause-ends c =
     let (m, stands, is) = c.requires.stands in
     lies_ends c.args.self.now m is c.args.reach.h c.args.reach.len c.in-Ok.place (c.in-Ok.ensures m stands is) c.found_at-found.result.now c.found_at-found.ensures
+
+pub returns-in_err-endpoints-clause-outright : goal.returns-in_err-endpoints-clause-outright
+returns-in_err-endpoints-clause-outright c = λ m stands is refused.
+    absurd (within_unrefused c.args.self.now m c.args.reach.h c.args.reach.len c.in-Ok.place (c.in-Ok.ensures m stands is) _ refl refused)
