@@ -55,7 +55,7 @@ script_grows nodes asked turns first last old new status (read_out end lines is 
     record { text = text_of nodes turns ++ ending_text end; taken = text; quiet = λ _. sink }
 script_grows nodes asked turns first last old new status (ending_cut end lines is stops e short) =
     record { text = text_of nodes turns ++ take short.count (ending_text end); taken = short.taken; quiet = λ other. absurd (other is) }
-script_grows nodes asked turns first last old new status (reply_cut lines earlier one is stops e f short) =
+script_grows nodes asked turns first last old new status (reply_cut lines earlier one is stops e f short source) =
     record { text = text_of nodes earlier ++ take short.count (reply_text nodes one.reply); taken = short.taken; quiet = λ other. absurd (other is) }
 script_grows nodes asked turns first last old new status (ends.runs_out lines is stops e text source sink) =
     record { text = text_of nodes turns; taken = text; quiet = λ _. sink }

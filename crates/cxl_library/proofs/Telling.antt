@@ -52,7 +52,7 @@ all_asked nodes asked turns lines left old new status done (read_out endings.Too
 all_asked nodes asked turns lines left old new status done (read_out endings.WriteFault these is stops e text source sink) = absurd (cc)
 all_asked nodes asked turns lines left old new status done (read_out endings.Memory these is stops e text source sink) = absurd (cc)
 all_asked nodes asked turns lines left old new status done (ending_cut end these is stops e short) = absurd (cc)
-all_asked nodes asked turns lines left old new status done (reply_cut these earlier last is front e turns_are short) = absurd (cc)
+all_asked nodes asked turns lines left old new status done (reply_cut these earlier last is front e turns_are short source) = absurd (cc)
 all_asked nodes asked turns lines left old new status done (runs_out these is front e text source sink) = absurd (cc)
 
 -- no call failed where no write found the trail full

@@ -99,7 +99,7 @@ module _ (old new : Outside) (before after : Devices) (status : Status) (files_w
     read_whole ready (read_out endings.WriteFault lines is stops e text source sink) = absurd stops
     read_whole ready (read_out endings.Memory lines is stops e text source sink) = absurd stops
     read_whole ready (ending_cut end lines is stops e cut) = absurd (sink_well cut.rose)
-    read_whole ready (reply_cut lines earlier last is front e these cut) = absurd (sink_well cut.rose)
+    read_whole ready (reply_cut lines earlier last is front e these cut source) = absurd (sink_well cut.rose)
     read_whole ready (runs_out lines is front e text source sink) = inl is
 
   script_completes : (form : Form) → (IsScriptAnswered form old new before after status → IsAnsweredWhole form old new before after status) → (status ≡ Memory) ⊎ ((status ≡ Done) × HasReadOut form endings.Done old new before after) → Completes form

@@ -66,7 +66,7 @@ module _ (old new : SinkState) (status : Status) where
   script_late : (nodes : List Node) (asked : List Asked) (turns : List Turn) (before after : SourceState) → EndsScript nodes asked turns before after old new status → IsLate status old new
   script_late nodes asked turns before after (read_out end lines is stops e text source sink) = read_late end lines before after is stops
   script_late nodes asked turns before after (ending_cut end lines is stops e cut) = record { late = ap is_of_files is; cut = λ other. cut.rose }
-  script_late nodes asked turns before after (reply_cut lines earlier last is first e these cut) = record { late = ap is_of_files is; cut = λ other. cut.rose }
+  script_late nodes asked turns before after (reply_cut lines earlier last is first e these cut source) = record { late = ap is_of_files is; cut = λ other. cut.rose }
   script_late nodes asked turns before after (runs_out lines is first e text source sink) = record { late = ap is_of_files is; cut = λ other. absurd (cc) }
 
   gen_late : (n : ℕ) (last : Machine) (asked : List Asked) (turns : List Turn) → EndsGen n last asked turns old new status → IsLate status old new

@@ -70,17 +70,17 @@ module _ (nodes : List Node) (asked : List Asked) (turns : List Turn) (before af
   pub script-done : (old new : SinkState) → EndsLines nodes asked turns before after old new endings.Done → EndsScript nodes asked turns before after old new Done
   script-done old new (line_ends.read_out lines stops e text source sink) =
       read_out endings.Done lines refl stops e (subst (Takes old new) (sym (append-nil (text_of nodes turns))) text) (λ is. source refl) sink.unswallowed
-  script-done old new (line_ends.reply_cut lines earlier last first e these cut is) = absurd (cc)
+  script-done old new (line_ends.reply_cut lines earlier last first e these cut is source) = absurd (cc)
   script-done old new (line_ends.runs_out lines first e is text source sink) = absurd (cc)
 
   pub script-cut : (old new : SinkState) → EndsLines nodes asked turns before after old new endings.WriteFault → EndsScript nodes asked turns before after old new WriteFault
   script-cut old new (line_ends.read_out lines stops e text source sink) = absurd stops
-  script-cut old new (line_ends.reply_cut lines earlier last first e these cut is) = reply_cut lines earlier last refl first e these cut
+  script-cut old new (line_ends.reply_cut lines earlier last first e these cut is source) = reply_cut lines earlier last refl first e these cut source
   script-cut old new (line_ends.runs_out lines first e is text source sink) = absurd (cc)
 
   pub script-out : (old new : SinkState) → EndsLines nodes asked turns before after old new endings.Memory → EndsScript nodes asked turns before after old new Memory
   script-out old new (line_ends.read_out lines stops e text source sink) = absurd stops
-  script-out old new (line_ends.reply_cut lines earlier last first e these cut is) = absurd (cc)
+  script-out old new (line_ends.reply_cut lines earlier last first e these cut is source) = absurd (cc)
   script-out old new (line_ends.runs_out lines first e is text source sink) = runs_out lines refl first e text source sink
 
   -- why reading stopped is told behind them
@@ -103,7 +103,7 @@ module _ (nodes : List Node) (asked : List Asked) (turns : List Turn) (before af
 
     pub script-stopped : ends_reading end ≡ true → EndsLines nodes asked turns before after old mid end → Ends (script_stopped end) status mid new → EndsScript nodes asked turns before after old new status
     script-stopped reads (line_ends.read_out lines stops e text source sink) ends = told_behind lines stops e text sink ends
-    script-stopped reads (line_ends.reply_cut lines earlier last first e these cut is) ends = let own = ap ends_reading is in absurd (cc)
+    script-stopped reads (line_ends.reply_cut lines earlier last first e these cut is source) ends = let own = ap ends_reading is in absurd (cc)
     script-stopped reads (line_ends.runs_out lines first e is text source sink) ends = let own = ap ends_reading is in absurd (cc)
 
 -- ---- a session opened

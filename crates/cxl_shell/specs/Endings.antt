@@ -48,10 +48,11 @@ pub data EndsScript (nodes : List Node) (asked : List Asked) (turns : List Turn)
   -- the sink failed in the text behind the last reply
   ending_cut : (end : Ending) (lines : List (List ℕ)) → status ≡ WriteFault → StopsReading end lines before after → asked ≡ lines_asked lines
       → IsCutBehind (text_of nodes turns) (ending_text end) old new → EndsScript nodes asked turns before after old new status
-  -- the sink failed in the last reply; all before it stand whole
+  -- the sink failed in the last reply; all before it stand whole, and the source is not asked for more
   reply_cut : (lines : List (List ℕ)) (earlier : List Turn) (last : Turn) → status ≡ WriteFault → AreFirstLines lines before after
       → asked ≡ lines_asked lines → turns ≡ earlier ++ last ∷ []
-      → IsCutBehind (text_of nodes earlier) (reply_text nodes last.reply) old new → EndsScript nodes asked turns before after old new status
+      → IsCutBehind (text_of nodes earlier) (reply_text nodes last.reply) old new
+      → LeavesCount before.counts_failures_alone before.faults after.faults → EndsScript nodes asked turns before after old new status
   -- memory ran out at the next line, or before its reply; all replies so far stand whole, and no fault of source or sink is hidden in it
   runs_out : (lines : List (List ℕ)) → status ≡ Memory → AreFirstLines lines before after → asked ≡ lines_asked lines
       → Takes old new (text_of nodes turns) → LeavesCount before.counts_failures_alone before.faults after.faults

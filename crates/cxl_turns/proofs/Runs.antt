@@ -170,9 +170,10 @@ module _ (reader next : Reader) (start now later : Moment) (run : HaveRun reader
   }
 
   -- the sink failed in its reply
-  pub run_cut : now.regs.faults ≤ later.regs.faults → EachFrom now (λ m. IsCutOff m asked later.session now.regs later.regs later.media now.sink later.sink)
+  pub run_cut : LeavesCount now.script.counts_failures_alone now.script.faults later.script.faults → now.regs.faults ≤ later.regs.faults
+      → EachFrom now (λ m. IsCutOff m asked later.session now.regs later.regs later.media now.sink later.sink)
       → IsEnd start later endings.WriteFault
-  run_cut bus each = ends_so endings.WriteFault bus (λ m at.
+  run_cut left bus each = ends_so endings.WriteFault bus (λ m at.
       let was = run.each m at in
       let more = each (machine_after m was.turns) was.gone.at in (
         lines_asked (run.passed ++ one.line ∷ []),
@@ -182,7 +183,8 @@ module _ (reader next : Reader) (start now later : Moment) (run : HaveRun reader
         reply_cut (run.passed ++ one.line ∷ []) was.turns more.turn (first_lines (run.passed ++ one.line ∷ []) start.script later.script next one.goes one.read) refl refl
             (cut_behind m.settled.nodes (text_of m.settled.nodes was.turns) more.turn.reply was.told
             (subst (λ nodes. TakesPrefix now.sink later.sink (reply_text nodes more.turn.reply)) (nodes_after m (lines_asked run.passed) was.turns was.gone.answered) more.cut) more.rose
-            (λ only. subst (λ n. CountsExactly 1 true n later.sink.faults) (was.unswallowed only) (λ _. more.counted (was.alone ∙ only)) refl)) refl,
+            (λ only. subst (λ n. CountsExactly 1 true n later.sink.faults) (was.unswallowed only) (λ _. more.counted (was.alone ∙ only)) refl)) refl
+            (λ only. left (run.alone ∙ only) ∙ run.left only),
       ))
     where
       cut_behind : (nodes : List Node) (front : List ℕ) (reply : Reply) → Takes start.sink now.sink front → TakesPrefix now.sink later.sink (reply_text nodes reply)
@@ -262,8 +264,9 @@ module _ (reader next : Reader) (start now later : Moment) (result : Result (Uni
   took_more done is alone left =
       run_more reader next start now later run took.asked took.one took.source took.sink alone left took.bus (known (Ok done) is)
 
-  pub took_cut : result ≡ Err stops.Sink → IsEnd start later endings.WriteFault
-  took_cut is = run_cut reader next start now later run took.asked took.one took.source took.sink took.bus (known (Err stops.Sink) is)
+  pub took_cut : result ≡ Err stops.Sink → LeavesCount now.script.counts_failures_alone now.script.faults later.script.faults
+      → IsEnd start later endings.WriteFault
+  took_cut is left = run_cut reader next start now later run took.asked took.one took.source took.sink left took.bus (known (Err stops.Sink) is)
 
   pub took_left : result ≡ Err stops.Memory → LeavesCount now.script.counts_failures_alone now.script.faults later.script.faults → IsEnd start later endings.Memory
   took_left is left = run_left reader next start now later run took.asked took.one took.source took.sink left took.bus (known (Err stops.Memory) is)

@@ -50,10 +50,10 @@ pub data EndsLines (nodes : List Node) (asked : List Asked) (turns : List Turn) 
   read_out : (lines : List (List ℕ)) → StopsReading ending lines before after → asked ≡ lines_asked lines → Takes old new (text_of nodes turns)
       → (ending ≡ Done → LeavesCount before.counts_failures_alone before.faults after.faults)
       → MeetsNoFault old new → EndsLines nodes asked turns before after old new ending
-  -- the sink failed in the last reply; all before it stand whole
+  -- the sink failed in the last reply; all before it stand whole, and the source is not asked for more
   reply_cut : (lines : List (List ℕ)) (earlier : List Turn) (last : Turn) → AreFirstLines lines before after → asked ≡ lines_asked lines
       → turns ≡ earlier ++ last ∷ [] → IsCutBehind (text_of nodes earlier) (reply_text nodes last.reply) old new → ending ≡ WriteFault
-      → EndsLines nodes asked turns before after old new ending
+      → LeavesCount before.counts_failures_alone before.faults after.faults → EndsLines nodes asked turns before after old new ending
   -- memory ran out at the next line, or before its reply; all replies so far stand whole, and no fault of source or sink is hidden in it
   runs_out : (lines : List (List ℕ)) → AreFirstLines lines before after → asked ≡ lines_asked lines → ending ≡ Memory
       → Takes old new (text_of nodes turns) → LeavesCount before.counts_failures_alone before.faults after.faults

@@ -47,7 +47,7 @@ module _ (on_lines : (lines : List (List ℕ)) → AreRanged (lines_asked lines)
   script_ranged : (nodes : List Node) (asked : List Asked) (turns : List Turn) (before after : SourceState) (old new : SinkState) (status : Status) → EndsScript nodes asked turns before after old new status → AreRanged asked
   script_ranged nodes asked turns before after old new status (read_out end lines is stops e text source sink) = lines_ranged lines asked e
   script_ranged nodes asked turns before after old new status (ending_cut end lines is stops e cut) = lines_ranged lines asked e
-  script_ranged nodes asked turns before after old new status (reply_cut lines earlier last is first e these cut) = lines_ranged lines asked e
+  script_ranged nodes asked turns before after old new status (reply_cut lines earlier last is first e these cut source) = lines_ranged lines asked e
   script_ranged nodes asked turns before after old new status (runs_out lines is first e text source sink) = lines_ranged lines asked e
 
   made_ranged : (n : ℕ) → AreRanged (made_asked n)

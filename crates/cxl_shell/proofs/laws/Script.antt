@@ -148,9 +148,9 @@ module _ (form : Form) (old new : Outside) (before after : Devices) (status : St
     read_to endings.Done reads is (ending_cut other lines own stops e cut) = absurd (cc)
     read_to endings.ReadFault reads is (ending_cut other lines own stops e cut) = absurd (cc)
     read_to endings.TooMuch reads is (ending_cut other lines own stops e cut) = absurd (cc)
-    read_to endings.Done reads is (reply_cut lines earlier last own front e these cut) = absurd (cc)
-    read_to endings.ReadFault reads is (reply_cut lines earlier last own front e these cut) = absurd (cc)
-    read_to endings.TooMuch reads is (reply_cut lines earlier last own front e these cut) = absurd (cc)
+    read_to endings.Done reads is (reply_cut lines earlier last own front e these cut source) = absurd (cc)
+    read_to endings.ReadFault reads is (reply_cut lines earlier last own front e these cut source) = absurd (cc)
+    read_to endings.TooMuch reads is (reply_cut lines earlier last own front e these cut source) = absurd (cc)
     read_to endings.Done reads is (runs_out lines own front e text source sink) = absurd (cc)
     read_to endings.ReadFault reads is (runs_out lines own front e text source sink) = absurd (cc)
     read_to endings.TooMuch reads is (runs_out lines own front e text source sink) = absurd (cc)
@@ -162,7 +162,7 @@ module _ (form : Form) (old new : Outside) (before after : Devices) (status : St
     out_at is (read_out endings.WriteFault lines own stops e text source sink) = absurd stops
     out_at is (read_out endings.Memory lines own stops e text source sink) = absurd stops
     out_at is (ending_cut end lines own stops e cut) = absurd (cc)
-    out_at is (reply_cut lines earlier last own front e these cut) = absurd (cc)
+    out_at is (reply_cut lines earlier last own front e these cut source) = absurd (cc)
     out_at is (runs_out lines own front e text source sink) =
         record { start = s; frames = frames; first = first; lines = lines; turns = turns; host = start; opens = opens; front = front; answered = subst (λ a. AreTurns first a turns) e answered; carried = carried; text = text }
 
@@ -209,7 +209,7 @@ module _ (form : Form) (old new : Outside) (before after : Devices) (status : St
   source_rose nodes asked turns is (read_out endings.WriteFault lines own stops e text source sink) = absurd stops
   source_rose nodes asked turns is (read_out endings.Memory lines own stops e text source sink) = absurd stops
   source_rose nodes asked turns is (ending_cut end lines own stops e cut) = absurd (cc)
-  source_rose nodes asked turns is (reply_cut lines earlier last own front e these cut) = absurd (cc)
+  source_rose nodes asked turns is (reply_cut lines earlier last own front e these cut source) = absurd (cc)
   source_rose nodes asked turns is (runs_out lines own front e text source sink) = absurd (cc)
 
   pub read_failed : status ≡ ReadFault → IsRun form old new before after status → Rose before.script.faults after.script.faults
@@ -228,7 +228,7 @@ module _ (form : Form) (old new : Outside) (before after : Devices) (status : St
   past_limit nodes asked turns bytes is all (read_out endings.WriteFault lines own stops e text source sink) = absurd stops
   past_limit nodes asked turns bytes is all (read_out endings.Memory lines own stops e text source sink) = absurd stops
   past_limit nodes asked turns bytes is all (ending_cut end lines own stops e cut) = absurd (cc)
-  past_limit nodes asked turns bytes is all (reply_cut lines earlier last own front e these cut) = absurd (cc)
+  past_limit nodes asked turns bytes is all (reply_cut lines earlier last own front e these cut source) = absurd (cc)
   past_limit nodes asked turns bytes is all (runs_out lines own front e text source sink) = absurd (cc)
 
   pub is_too_long : (bytes : List ℕ) → status ≡ TooMuch → before.script.left ≡ Some bytes → IsRun form old new before after status → script_limit < length bytes
@@ -255,7 +255,7 @@ module _ (form : Form) (old new : Outside) (before after : Devices) (status : St
   stops_long Other nodes asked turns bytes all more (read_out endings.WriteFault lines own stops e text source sink) = absurd stops
   stops_long Other nodes asked turns bytes all more (read_out endings.Memory lines own stops e text source sink) = absurd stops
   stops_long Other nodes asked turns bytes all more (ending_cut end lines own stops e cut) = inr (inr (inl (own, cut.rose)))
-  stops_long Other nodes asked turns bytes all more (reply_cut lines earlier last own front e these cut) = inr (inr (inl (own, cut.rose)))
+  stops_long Other nodes asked turns bytes all more (reply_cut lines earlier last own front e these cut source) = inr (inr (inl (own, cut.rose)))
   stops_long Other nodes asked turns bytes all more (runs_out lines own front e text source sink) = inr (inr (inr (inl own)))
 
   pub only_long : (bytes : List ℕ) → reads_script form ≡ true → before.script.left ≡ Some bytes → script_limit < length bytes → IsRun form old new before after status → IsTooLongOr (IsUnopened form old new before after status)
@@ -279,7 +279,7 @@ module _ (form : Form) (old new : Outside) (before after : Devices) (status : St
   script_not_bus nodes asked turns is (read_out endings.WriteFault lines own stops e text source sink) = absurd stops
   script_not_bus nodes asked turns is (read_out endings.Memory lines own stops e text source sink) = absurd stops
   script_not_bus nodes asked turns is (ending_cut end lines own stops e cut) = absurd (cc)
-  script_not_bus nodes asked turns is (reply_cut lines earlier last own front e these cut) = absurd (cc)
+  script_not_bus nodes asked turns is (reply_cut lines earlier last own front e these cut source) = absurd (cc)
   script_not_bus nodes asked turns is (runs_out lines own front e text source sink) = absurd (cc)
 
   bus_unready : (s : System) (frames : ℕ) → IsStart form old.files.told s frames → after.script ≡ before.script → status ≡ BusFault → FailsToOpen s frames before after old.out new.out status

@@ -117,6 +117,10 @@ returns-in-Err-Sink g c =
     ] in
     let which = rw c.in-Err-Sink.is at c.in-Err-Sink.field-0-is in
     took_cut c.lines.reader c.next.new.self start now later c.match-next.carried c.lines.invariant took (c.in-Err-Sink.is ∙ ap (λ (stop : LineStop). Err stop) which)
+    (elim c.match-next.branch [
+      | in-Line w ↦ c.next.ensures.unswallowed (λ e. let is = w.in-Line.is in absurd (cc))
+      | in-Long w ↦ c.next.ensures.unswallowed (λ e. let is = w.in-Long.is in absurd (cc))
+    ])
 
 pub returns-in-Err-Memory : goal.returns-in-Err-Memory
 returns-in-Err-Memory g c =

@@ -33,7 +33,7 @@ returns-clause-read_fault c =
     (λ alone. refl)
 
 pub returns-clause-cut : goal.returns-clause-cut
-returns-clause-cut c = reply_cut lines [] refusal refl first_line refl refl (record { rose = omega arith; count = 7; short = omega arith; taken = refl; counted = λ alone. refl })
+returns-clause-cut c = reply_cut lines [] refusal refl first_line refl refl (record { rose = omega arith; count = 7; short = omega arith; taken = refl; counted = λ alone. refl }) (λ alone. refl)
 
 pub returns-clause-cut_behind : goal.returns-clause-cut_behind
 returns-clause-cut_behind c = ending_cut endings.ReadFault lines refl fails refl (record { rose = omega arith; count = 5; short = omega arith; taken = refl; counted = λ alone. refl })
@@ -83,7 +83,7 @@ no_cut_memory is = let wrong : 6 ≡ 9 = ap exit_code is in omega (arith, wrong)
 unwritten : EndsWith (source [] 0) (sink [] 0) statuses.Done → ⊥
 unwritten (read_out end lines is stops asked taken read kept) = untaken [] (ending_text end) (omega arith) taken
 unwritten (ending_cut end lines is stops asked cut) = no_done_cut is
-unwritten (reply_cut lines earlier last is first asked turns cut) = no_done_cut is
+unwritten (reply_cut lines earlier last is first asked turns cut source) = no_done_cut is
 unwritten (runs_out lines is first asked taken read kept) = no_done_memory is
 
 pub returns-clause-not_unwritten : goal.returns-clause-not_unwritten
@@ -98,7 +98,7 @@ left_over end lines is stops =
 unread : EndsWith (source script 0) (sink reply 0) statuses.Done → ⊥
 unread (read_out end lines is stops asked taken read kept) = left_over end lines (as_done end is) stops
 unread (ending_cut end lines is stops asked cut) = no_done_cut is
-unread (reply_cut lines earlier last is first asked turns cut) = no_done_cut is
+unread (reply_cut lines earlier last is first asked turns cut source) = no_done_cut is
 unread (runs_out lines is first asked taken read kept) = no_done_memory is
 
 pub returns-clause-not_unread : goal.returns-clause-not_unread
@@ -107,7 +107,7 @@ returns-clause-not_unread c = unread
 past_source : EndsWith (source [] 1) (sink reply 0) statuses.Done → ⊥
 past_source (read_out end lines is stops asked taken read kept) = let wrong : 1 ≡ 0 = read refl refl in omega (arith, wrong)
 past_source (ending_cut end lines is stops asked cut) = no_done_cut is
-past_source (reply_cut lines earlier last is first asked turns cut) = no_done_cut is
+past_source (reply_cut lines earlier last is first asked turns cut source) = no_done_cut is
 past_source (runs_out lines is first asked taken read kept) = no_done_memory is
 
 pub returns-clause-not_past_source_fault : goal.returns-clause-not_past_source_fault
@@ -116,7 +116,7 @@ returns-clause-not_past_source_fault c = past_source
 past_sink : EndsWith (source [] 0) (sink reply 1) statuses.Done → ⊥
 past_sink (read_out end lines is stops asked taken read kept) = let wrong : 1 ≡ 0 = kept refl in omega (arith, wrong)
 past_sink (ending_cut end lines is stops asked cut) = no_done_cut is
-past_sink (reply_cut lines earlier last is first asked turns cut) = no_done_cut is
+past_sink (reply_cut lines earlier last is first asked turns cut source) = no_done_cut is
 past_sink (runs_out lines is first asked taken read kept) = no_done_memory is
 
 pub returns-clause-not_past_sink_fault : goal.returns-clause-not_past_sink_fault
@@ -125,7 +125,7 @@ returns-clause-not_past_sink_fault c = past_sink
 untold : EndsWith (source [] 1) (sink [] 0) statuses.ReadFault → ⊥
 untold (read_out end lines is stops asked taken read kept) = untaken [] (ending_text end) (omega arith) taken
 untold (ending_cut end lines is stops asked cut) = no_fault_cut is
-untold (reply_cut lines earlier last is first asked turns cut) = no_fault_cut is
+untold (reply_cut lines earlier last is first asked turns cut source) = no_fault_cut is
 untold (runs_out lines is first asked taken read kept) = no_fault_memory is
 
 pub returns-clause-not_untold : goal.returns-clause-not_untold
@@ -134,7 +134,7 @@ returns-clause-not_untold c = untold
 unfailing : (taken : SinkState) → EndsWith (source [] 0) taken statuses.ReadFault → ⊥
 unfailing sunk (read_out end lines is stops asked taken read kept) = no_fault end lines is stops
 unfailing sunk (ending_cut end lines is stops asked cut) = no_fault_cut is
-unfailing sunk (reply_cut lines earlier last is first asked turns cut) = no_fault_cut is
+unfailing sunk (reply_cut lines earlier last is first asked turns cut source) = no_fault_cut is
 unfailing sunk (runs_out lines is first asked taken read kept) = no_fault_memory is
 
 pub returns-clause-not_read_fault : goal.returns-clause-not_read_fault
@@ -158,7 +158,7 @@ not_by_memory endings.Memory lines before after is stops = stops
 uncut : EndsWith (source [] 0) (sink (codes "no such") 0) statuses.WriteFault → ⊥
 uncut (read_out end lines is stops asked taken read kept) = not_by_sink end lines (source script 0) (source [] 0) is stops
 uncut (ending_cut end lines is stops asked cut) = let rose : 1 ≤ 0 = cut.rose in omega (arith, rose)
-uncut (reply_cut lines earlier last is first asked turns cut) = let rose : 1 ≤ 0 = cut.rose in omega (arith, rose)
+uncut (reply_cut lines earlier last is first asked turns cut source) = let rose : 1 ≤ 0 = cut.rose in omega (arith, rose)
 uncut (runs_out lines is first asked taken read kept) = no_cut_memory is
 
 pub returns-clause-not_write_fault : goal.returns-clause-not_write_fault
@@ -167,7 +167,7 @@ returns-clause-not_write_fault c = uncut
 in_reply : EndsWith (source [] 0) (sink (codes "no such") 0) statuses.Memory → ⊥
 in_reply (read_out end lines is stops asked taken read kept) = not_by_memory end lines (source script 0) (source [] 0) is stops
 in_reply (ending_cut end lines is stops asked cut) = no_cut_memory (sym is)
-in_reply (reply_cut lines earlier last is first asked turns cut) = no_cut_memory (sym is)
+in_reply (reply_cut lines earlier last is first asked turns cut source) = no_cut_memory (sym is)
 in_reply (runs_out lines is first asked taken read kept) = let wrong : 7 ≡ 18 = ap length (same_Some (codes "no such") reply taken) in omega (arith, wrong)
 
 pub returns-clause-not_memory_in_reply : goal.returns-clause-not_memory_in_reply
@@ -176,7 +176,7 @@ returns-clause-not_memory_in_reply c = in_reply
 behind_source : EndsWith (source [] 1) (sink reply 0) statuses.Memory → ⊥
 behind_source (read_out end lines is stops asked taken read kept) = not_by_memory end lines (source script 0) (source [] 1) is stops
 behind_source (ending_cut end lines is stops asked cut) = no_cut_memory (sym is)
-behind_source (reply_cut lines earlier last is first asked turns cut) = no_cut_memory (sym is)
+behind_source (reply_cut lines earlier last is first asked turns cut source) = no_cut_memory (sym is)
 behind_source (runs_out lines is first asked taken read kept) = let wrong : 1 ≡ 0 = read refl in omega (arith, wrong)
 
 pub returns-clause-not_memory_behind_source_fault : goal.returns-clause-not_memory_behind_source_fault
@@ -185,7 +185,7 @@ returns-clause-not_memory_behind_source_fault c = behind_source
 behind_sink : EndsWith (source [] 0) (sink reply 1) statuses.Memory → ⊥
 behind_sink (read_out end lines is stops asked taken read kept) = not_by_memory end lines (source script 0) (source [] 0) is stops
 behind_sink (ending_cut end lines is stops asked cut) = no_cut_memory (sym is)
-behind_sink (reply_cut lines earlier last is first asked turns cut) = no_cut_memory (sym is)
+behind_sink (reply_cut lines earlier last is first asked turns cut source) = no_cut_memory (sym is)
 behind_sink (runs_out lines is first asked taken read kept) = let wrong : 1 ≡ 0 = kept refl in omega (arith, wrong)
 
 pub returns-clause-not_memory_behind_sink_fault : goal.returns-clause-not_memory_behind_sink_fault
@@ -194,7 +194,7 @@ returns-clause-not_memory_behind_sink_fault c = behind_sink
 past_both : EndsWith (source [] 1) (sink (reply ++ ended (codes "error: script read failed")) 1) statuses.ReadFault → ⊥
 past_both (read_out end lines is stops asked taken read kept) = let wrong : 1 ≡ 0 = kept refl in omega (arith, wrong)
 past_both (ending_cut end lines is stops asked cut) = no_fault_cut is
-past_both (reply_cut lines earlier last is first asked turns cut) = no_fault_cut is
+past_both (reply_cut lines earlier last is first asked turns cut source) = no_fault_cut is
 past_both (runs_out lines is first asked taken read kept) = no_fault_memory is
 
 pub returns-clause-not_read_fault_past_sink_fault : goal.returns-clause-not_read_fault_past_sink_fault
@@ -211,7 +211,7 @@ not_by_bus endings.Memory is = let wrong : 7 ≡ 9 = ap exit_code is in omega (a
 by_bus : EndsWith (source [] 0) (sink reply 0) statuses.BusFault → ⊥
 by_bus (read_out end lines is stops asked taken read kept) = not_by_bus end is
 by_bus (ending_cut end lines is stops asked cut) = let wrong : 7 ≡ 6 = ap exit_code is in omega (arith, wrong)
-by_bus (reply_cut lines earlier last is first asked turns cut) = let wrong : 7 ≡ 6 = ap exit_code is in omega (arith, wrong)
+by_bus (reply_cut lines earlier last is first asked turns cut source) = let wrong : 7 ≡ 6 = ap exit_code is in omega (arith, wrong)
 by_bus (runs_out lines is first asked taken read kept) = let wrong : 7 ≡ 9 = ap exit_code is in omega (arith, wrong)
 
 pub returns-clause-not_bus_fault : goal.returns-clause-not_bus_fault
