@@ -46,6 +46,7 @@ run_from form files before after status old new files_after run flat complete f 
       after = after;
       run = run;
       flat = flat;
+      calm = (f, s', r');
       out_is = refl;
       whole = λ ready other.
           let same : new.faults ≡ old.faults = (run_grows form _ _ before after status run).quiet other alone in

@@ -88,11 +88,11 @@ module _ (of : HeldText) (given : Slices) (image : Option (List ℕ)) (script : 
   told_refused s frames host (sessions.unmade is nothing) = inr (record { status_is = is; nothing = nothing })
 
   -- where none opened
-  pub told_unopened : (after : FetchState) → OpensNone table_name topology_name image (files_of given) after status old new
+  pub told_unopened : (after : FetchState) → after.faults ≡ 0 → OpensNone table_name topology_name image (files_of given) after status old new
       → IsAnswered (IsToldBehind of given image script) status old new
-  told_unopened after (sessions.no_host outcome none ends) = inl (record { outcome = outcome; is = no_files after none; ends = ends })
-  told_unopened after (sessions.refused s frames host is) = told_refused s frames host is
-  told_unopened after (sessions.unread is unfailed nothing) = inr (record { status_is = is; nothing = nothing })
+  told_unopened after calm (sessions.no_host outcome none ends) = inl (record { outcome = outcome; is = no_files after calm none; ends = ends })
+  told_unopened after calm (sessions.refused s frames host is) = told_refused s frames host is
+  told_unopened after calm (sessions.unread is unfailed nothing) = inr (record { status_is = is; nothing = nothing })
 
 -- ---- its status
 
@@ -129,7 +129,7 @@ over_faults of first script outcome (too_long many told) is = let own = own_stat
 over_faults of first script outcome (behind last turns text within carried is_text told) is = let own = own_status outcome _ told is in cc
 
 pub behind_faults : (of : HeldText) (given : Slices) (image : Option (List ℕ)) (script : List ℕ) → AreNoWriteFaults (IsToldBehind of given image script)
-behind_faults of given image script outcome (no_files after none) is = no_files_faults _ after _ _ image outcome none is
+behind_faults of given image script outcome (no_files after calm none) is = no_files_faults _ after _ _ image outcome none is
 behind_faults of given image script outcome (breach s frames host tells) is = let own = own_status outcome _ tells.told is in cc
 behind_faults of given image script outcome (full s frames host n regions many told) is = let own = own_status outcome _ told is in cc
 behind_faults of given image script outcome (opened s frames first host opens over) is = over_faults of first script outcome over is

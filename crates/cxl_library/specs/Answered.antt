@@ -38,6 +38,8 @@ pub record IsRunFrom (form : Form) (files : Slices) (before : Devices) (status :
   -- completeness: where files and script have a reading, it is answered whole, or memory ran out, or the room is too small
   pub whole : IsReady form (files_of files) before.script → status ≢ statuses.WriteFault
       → (status ≡ statuses.Memory) ⊎ IsAnsweredWhole form (outside (files_of files) old) outside_after before after status
+  -- files, script and registers, which are the caller's bytes and the simulator's, did not fail
+  pub calm : (outside_after.files.faults ≡ 0) × (after.script.faults ≡ 0) × (after.regs.faults ≡ 0)
   -- the sink is the one that it was handed
   pub out_is : outside_after.out ≡ new
 

@@ -81,10 +81,10 @@ pub data IsToldOver (of : HeldText) (first : Machine) (script : List ℕ) (outco
   behind : (last : Machine) (turns : List Turn) (text : List ℕ) → length script ≤ script_limit → HasCarriedOutScript first script last turns
       → IsTextOf of last (last_words script last.settled.nodes turns) text → outcome ≡ told text → IsToldOver of first script outcome
 
--- Over files of a caller: one has no reading; or no session opens on their host, whose image has a breach, or more regions than
+-- Over files of a caller, which never fail: one has no reading; or no session opens on their host, whose image has a breach, or more regions than
 -- may live; or one opened.
 pub data IsToldBehind (of : HeldText) (files : Slices) (image : Option (List ℕ)) (script : List ℕ) (outcome : Outcome) : Type 0 where
-  no_files : (after : FetchState) → HasNoFiles table_name topology_name image (files_of files) after outcome
+  no_files : (after : FetchState) → after.faults ≡ 0 → HasNoFiles table_name topology_name image (files_of files) after outcome
       → IsToldBehind of files image script outcome
   breach : (s : System) (frames : ℕ) → IsHostOf (told_in files) table_name topology_name image s frames → TellsBreach s outcome
       → IsToldBehind of files image script outcome

@@ -1,4 +1,4 @@
-use Rattle.std.proofs.Common.{◌∙◌, List, Some, sym, ap, subst}
+use Rattle.std.proofs.Common.{◌∙◌, List, Some, refl, sym, ap, subst}
 use Rattle.cxl_inputs.specs.Ends.{Finishes}
 use Rattle.cxl_reads.specs.Answers.{image_name}
 use Rattle.cxl_machine.specs.Machine.{Machine}
@@ -16,4 +16,4 @@ returns-in-Ok g c =
 
 pub returns-in-Err : goal.returns-in-Err
 returns-in-Err g c =
-    told_unopened c.args.of c.args.files (Some image_name) c.args.script.now c.in-Err.status (g.K.Sink.state c.args.out.now) (g.K.Sink.state c.open_from_image.new.out) _ c.in-Err.ensures.unopened
+    told_unopened c.args.of c.args.files (Some image_name) c.args.script.now c.in-Err.status (g.K.Sink.state c.args.out.now) (g.K.Sink.state c.open_from_image.new.out) _ refl c.in-Err.ensures.unopened
