@@ -5,7 +5,7 @@ mod files;
 mod topology;
 mod words;
 
-use cxl_inputs::Status;
+use cxl_inputs::{Beside, Status};
 use std::alloc::Global;
 use std::io::{self, Eprint};
 use std::rt::Files;
@@ -13,7 +13,7 @@ use std::rt::Files;
 /// Says in one line what is wrong and what to do, by the words of the command and the status with which it ended. A command
 /// that was carried out, one without an answer, and one whose reader is gone have no such line. The error is that of standard error. (This project's
 /// rule.) Takes memory.
-pub fn hint<R: Eprint + Files>(
+fn hint<R: Eprint + Files>(
     rt: &R,
     alloc: Global,
     words: &[String],
@@ -31,6 +31,27 @@ pub fn hint<R: Eprint + Files>(
             Some(text) => say(rt, "", text),
             None => Ok(()),
         },
+    }
+}
+
+/// Hints on standard error.
+#[derive(Drop)]
+pub struct Hints<'a, R> {
+    rt: &'a R,
+    alloc: Global,
+}
+
+impl<'a, R: Eprint + Files> Hints<'a, R> {
+    /// Hints that this runtime writes. Takes no memory.
+    pub fn new(rt: &'a R, alloc: Global) -> Hints<'a, R> {
+        Hints { rt, alloc }
+    }
+}
+
+impl<R: Eprint + Files> Beside for Hints<'_, R> {
+    fn tell(&mut self, words: &[String], status: Status) {
+        // A hint that cannot be written changes nothing.
+        let _ = hint(self.rt, self.alloc, words, status);
     }
 }
 

@@ -1,6 +1,7 @@
 //! The files that commands read, and how a command ends, early or well.
 #![tactic(auto)]
 
+mod beside;
 mod both;
 mod faults;
 mod file;
@@ -14,6 +15,7 @@ mod table;
 mod table_windows;
 mod topology;
 
+pub use beside::{Beside, Silent};
 pub use host::{OwnedHost, fetch_host};
 pub use image::given_image;
 pub use outcome::Outcome;

@@ -5,6 +5,7 @@ mod commands;
 mod completeness;
 mod files;
 mod headline;
+mod programs;
 mod runs;
 mod shell;
 mod statuses;
@@ -15,9 +16,10 @@ pub use cxl_commands::{
     HELP, VERSION, check_statuses, help_statuses, list_statuses, normal_statuses, plan_statuses,
     route_statuses, words,
 };
-pub use cxl_inputs::{Status, ended};
+pub use cxl_inputs::{Beside, Silent, Status, ended};
 pub use files::{file_statuses, image_statuses, table_statuses, topology_statuses};
 pub use headline::runs_are_flat;
+pub use programs::program;
 pub use runs::{run_ends, runs_of_files};
 pub use shell::run;
 pub use statuses::{gen_statuses, script_statuses};

@@ -1,11 +1,12 @@
 //! Carries out a script as `cxlplan run` does, over registers of another program at the other end of two pipes.
 #![tactic(auto)]
 
-use cxl_hints::hint;
+use cxl_hints::Hints;
 use cxl_io::{Memory, StdFetch, StdSink, StdSource};
 use cxl_media::SimMedia;
 use cxl_pipe::PipeBus;
-use cxl_shell::{Status, ended, run, words};
+use cxl_shell::{Status, ended, program, words};
+use std::alloc::Global;
 use std::fs::{File, OpenOptions};
 use std::io;
 use std::process::ExitCode;
@@ -47,12 +48,12 @@ fn main(rt: HostRuntime) -> ExitCode {
         Some(word) => word.as_str(),
         None => "",
     };
-    ended(match (first, words.len()) {
-        ("--help" | "-h", 1) => told(&rt, HELP, Status::Done),
-        ("--version", 1) => told(&rt, VERSION, Status::Done),
+    match (first, words.len()) {
+        ("--help" | "-h", 1) => ended(told(&rt, HELP, Status::Done)),
+        ("--version", 1) => ended(told(&rt, VERSION, Status::Done)),
         (_, 4 | 5) => over_pipes(&rt, words),
-        _ => misused(&rt),
-    })
+        _ => ended(misused(&rt)),
+    }
 }
 
 /// Writes a text.
@@ -73,22 +74,19 @@ fn misused(rt: &HostRuntime) -> Status {
 }
 
 /// Carries out the script over the registers behind the two pipes that the last words name.
-fn over_pipes(rt: &HostRuntime, mut words: Vec<String>) -> Status {
+fn over_pipes(rt: &HostRuntime, mut words: Vec<String>) -> ExitCode {
     let (Some(from), Some(to)) = (words.pop(), words.pop()) else {
-        return misused(rt);
+        return ended(misused(rt));
     };
     let mut how = OpenOptions::new();
     how.write(true);
     let Ok(questions) = how.open(rt, to.as_str()) else {
-        return unopened(rt, to.as_str());
+        return ended(unopened(rt, to.as_str()));
     };
     let Ok(answers) = File::open(rt, from.as_str()) else {
-        return unopened(rt, from.as_str());
+        return ended(unopened(rt, from.as_str()));
     };
-    match run_over(rt, words, questions, answers) {
-        Ok(status) => status,
-        Err(Memory) => Status::Memory,
-    }
+    run_over(rt, words, questions, answers)
 }
 
 /// A pipe cannot be opened.
@@ -100,43 +98,30 @@ fn unopened(rt: &HostRuntime, pipe: &str) -> Status {
     }
 }
 
-/// Carries out the script over files and registers, by the words of `run`.
-fn run_over(
-    rt: &HostRuntime,
-    mut words: Vec<String>,
-    questions: File,
-    answers: File,
-) -> Result<Status, Memory> {
+/// Carries out the script over files and registers, by the words of `run`, and over devices in memory.
+fn run_over(rt: &HostRuntime, words: Vec<String>, questions: File, answers: File) -> ExitCode {
     let alloc = rt.alloc();
-    words.insert(0, String::from_str(alloc, "run")?)?;
-    let mut regs = PipeBus::new(alloc, StdSource::new(answers), StdSink::new(questions))?;
-    let status = carried_out(rt, words.as_slice(), &mut regs);
+    let answers = StdSource::new(answers);
+    let questions = StdSink::new(questions);
+    let Ok(mut regs) = PipeBus::new(alloc, answers, questions) else {
+        return ended(Status::Memory);
+    };
+    let code = program(
+        alloc,
+        run_words(alloc, words),
+        &mut StdFetch::new(rt),
+        &mut StdSource::new(rt.reader()),
+        &mut StdSink::new(io::writer(rt)),
+        &mut regs,
+        &mut SimMedia::new(alloc),
+        &mut Hints::new(rt, alloc),
+    );
     drop(regs);
-    let _ = hint(rt, alloc, words.as_slice(), status);
-    drop(words);
-    Ok(status)
+    code
 }
 
-/// Carries out the words of `run`, over devices in memory.
-fn carried_out(
-    rt: &HostRuntime,
-    words: &[String],
-    regs: &mut PipeBus<StdSource<File>, StdSink<File>>,
-) -> Status {
-    let alloc = rt.alloc();
-    let mut files = StdFetch::new(rt);
-    let mut script = StdSource::new(rt.reader());
-    let mut out = StdSink::new(io::writer(rt));
-    let mut media = SimMedia::new(alloc);
-    let status = run(
-        alloc,
-        words,
-        &mut files,
-        &mut script,
-        &mut out,
-        regs,
-        &mut media,
-    );
-    drop(media);
-    status
+/// The words of `run` with these behind it. Takes memory.
+fn run_words(alloc: Global, mut words: Vec<String>) -> Result<Vec<String>, Memory> {
+    words.insert(0, String::from_str(alloc, "run")?)?;
+    Ok(words)
 }
