@@ -1,4 +1,5 @@
-//! How often a run powers on its registers, reads and writes them. No clause counts the calls that change nothing.
+//! How often a run powers on its registers and its device memory, and reads and writes registers. No clause counts the calls that
+//! change nothing.
 
 ghost use Rattle.std.specs.Prelude.{true, None};
 
@@ -8,7 +9,7 @@ use crate::tables::TWO_BRIDGES;
 use cxl_bus::{Regs, SimBus};
 use cxl_enc::{Failed, Memory};
 use cxl_io::MemSource;
-use cxl_media::SimMedia;
+use cxl_media::{At, Full, Media, Roll, SimMedia};
 use cxl_regs::Block;
 use cxl_shell::run;
 use std::alloc::Global;
@@ -39,6 +40,58 @@ impl Regs for CountingBus {
     fn write32(&mut self, node: u32, off: u32, value: u32) -> Result<(), Failed> {
         self.written = self.written.saturating_add(1);
         self.bus.write32(node, off, value)
+    }
+}
+
+/// The shipped device memory, with how often it was powered on.
+#[derive(Drop)]
+struct CountingMedia {
+    media: SimMedia,
+    powered: u32,
+}
+
+impl Media for CountingMedia {
+    ghost use Rattle.cxl_media.specs.Sim.{shipped_state};
+
+    ghost state = { λ media. shipped_state media.media };
+
+    fn power_on(&mut self, alloc: Global, frames: u32) -> Result<(), Memory> {
+        self.powered = self.powered.saturating_add(1);
+        self.media.power_on(alloc, frames)
+    }
+
+    fn get(&self, ep: u32, dpa: u64, into: &mut [u8]) {
+        self.media.get(ep, dpa, into);
+    }
+
+    fn need(&self, ep: u32, dpa: u64) -> u32 {
+        self.media.need(ep, dpa)
+    }
+
+    fn put(&mut self, ep: u32, dpa: u64, bytes: &[u8]) -> Result<(), Full> {
+        self.media.put(ep, dpa, bytes)
+    }
+
+    fn scrub(&mut self, ep: u32, from: u64, to: u64) {
+        self.media.scrub(ep, from, to);
+    }
+
+    fn free(&self) -> u32 {
+        self.media.free()
+    }
+}
+
+impl Roll for CountingMedia {
+    ghost use Rattle.cxl_media.specs.Sim.{shipped_roll};
+
+    ghost roll = { λ media. shipped_roll media.media };
+
+    fn places(&self) -> u32 {
+        self.media.places()
+    }
+
+    fn at(&self, i: u32) -> Option<At> {
+        self.media.at(i)
     }
 }
 
@@ -92,7 +145,7 @@ const COUNTS: [Count; 6] = [
     },
 ];
 
-/// Whether a run of the script powers registers on once, and reads and writes them so often.
+/// Whether a run of the script powers registers and device memory on once, and reads and writes registers so often.
 fn counts(rt: &impl Abort, alloc: Global, row: &Count) -> bool {
     let words = words_of(rt, alloc, "run table topology");
     let table = bytes(rt, alloc, TWO_BRIDGES);
@@ -106,7 +159,10 @@ fn counts(rt: &impl Abort, alloc: Global, row: &Count) -> bool {
         read: 0,
         written: 0,
     };
-    let mut media = SimMedia::new(alloc);
+    let mut media = CountingMedia {
+        media: SimMedia::new(alloc),
+        powered: 0,
+    };
     let status = run(
         alloc,
         &words,
@@ -116,13 +172,14 @@ fn counts(rt: &impl Abort, alloc: Global, row: &Count) -> bool {
         &mut regs,
         &mut media,
     );
-    let once = regs.powered == 1 && regs.read == row.read && regs.written == row.written;
+    let once = regs.powered == 1 && media.powered == 1;
+    let counted = regs.read == row.read && regs.written == row.written;
     drop(files);
     drop(source);
     drop(sink);
     drop(regs);
     drop(media);
-    status.code() == 0 && once
+    status.code() == 0 && once && counted
 }
 
 #[test]
