@@ -82,7 +82,7 @@ for frames in "$@"; do
         exit 2
     fi
 done
-begin_program media_bench "cxl_media" cxl_enc cxl_pool cxl_media
+begin_program media_bench "cxl_media" cxl_enc cxl_media
 
 cat >"$program/src/main.rt" <<'END'
 //! Times puts, gets and scrubs of the shipped media at a number of frames that the first word gives.

@@ -1,6 +1,6 @@
 //! A pool of frames.
 
-use cxl_pool::Pool;
+use cxl_media::Pool;
 
 /// How many frames are free, and how many there are.
 fn has(pool: &Pool, free: u32, total: u32) -> bool {

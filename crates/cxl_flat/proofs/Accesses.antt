@@ -17,7 +17,7 @@ use Rattle.cxl_reply.specs.declared.reply.Reply.TheVariants as replies
 use Rattle.cxl_reply.specs.declared.details.Carried.{Carried}
 use Rattle.cxl_machine.specs.Machine.{Live, Machine, has_host, live_at, live_named, free_frames, with_contents}
 use Rattle.cxl_machine.specs.Accesses.{offset_in, load_answer, store_into, store_answer, frames_wanted}
-use Rattle.cxl_bytes.specs.Bytes.{bytes_at, written}
+use Rattle.cxl_move.specs.Bytes.{bytes_at, written}
 use Rattle.cxl_machine.specs.Copies.{pieces_of, copied, moved, frames_for, copy_between, move_between, for_two, copy_answer, move_answer}
 use Rattle.cxl_machine.specs.Replies.{Answer, stays, becomes, ends_within}
 use Rattle.cxl_machine.specs.Scripts.{Asked, Turn, TakesTurn}

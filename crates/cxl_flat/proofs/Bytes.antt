@@ -11,7 +11,7 @@ use Rattle.std.proofs.lemmas.Bool.{cases_lt, cond-true, cond-false, false≢true
 use Rattle.std.proofs.lemmas.List.{get_or-replicate}
 use Rattle.std.proofs.lemmas.List.FromFn.{get_or-map-range_with_len}
 use Rattle.cxl_model.specs.Contents.{Contents, content_at}
-use Rattle.cxl_bytes.specs.Bytes.{byte_after, piece_after, written}
+use Rattle.cxl_move.specs.Bytes.{byte_after, piece_after, written}
 
 -- ---- no piece
 

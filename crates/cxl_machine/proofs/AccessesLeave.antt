@@ -12,7 +12,7 @@ use Rattle.cxl_script.specs.declared.command.Poison.{Poison}
 use Rattle.cxl_script.specs.declared.command.Store.{Store}
 use Rattle.cxl_script.specs.declared.command.Up.{Up}
 use Rattle.cxl_reply.specs.declared.reply.Reply.TheVariants as replies
-use Rattle.cxl_bytes.specs.Bytes.{written}
+use Rattle.cxl_move.specs.Bytes.{written}
 use Rattle.cxl_machine.specs.Machine.{Live, Machine, live_named, live_at, free_frames, with_contents}
 use Rattle.cxl_machine.specs.Outcomes.{BusOutcome, NoFault, Undone, LeftPending, ReadFailed, is_access}
 use Rattle.cxl_machine.specs.Replies.{Answer, becomes, within_region, ends_within}

@@ -14,7 +14,7 @@ use Rattle.std.proofs.lemmas.Slice.Eq.{bytes_eq-Decides}
 use Rattle.cxl_script.specs.declared.command.Store.{Store}
 use Rattle.cxl_model.specs.Contents.{Contents}
 use Rattle.cxl_model.proofs.NewBytes.{absent}
-use Rattle.cxl_bytes.specs.Bytes.{piece_after, new_pieces, written}
+use Rattle.cxl_move.specs.Bytes.{piece_after, new_pieces, written}
 use Rattle.cxl_machine.specs.Machine.{Live, Machine, under_release, kept_regions, pieces_held, free_frames, with_contents}
 use Rattle.cxl_machine.specs.Accesses.{frames_wanted, offset_in}
 use Rattle.cxl_machine.specs.Copies.{pieces_of, copied, moved, frames_for}

@@ -6,7 +6,7 @@ use Rattle.cxl_script.specs.declared.command.Command.{Command}
 use Rattle.cxl_script.specs.declared.command.Store.{Store}
 use Rattle.cxl_machine.specs.Machine.{Live, Machine, live_at, free_frames, with_contents, has_host}
 use Rattle.cxl_machine.specs.Outcomes.{BusOutcome, is_access, StoresBytes}
-use Rattle.cxl_bytes.specs.Bytes.{AreBytes, written}
+use Rattle.cxl_move.specs.Bytes.{AreBytes, written}
 use Rattle.cxl_machine.specs.Replies.{Answer, ends_within}
 use Rattle.cxl_machine.specs.Accesses.{offset_in, frames_wanted}
 use Rattle.cxl_machine.specs.Copies as copies

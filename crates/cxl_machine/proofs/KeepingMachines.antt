@@ -24,7 +24,7 @@ use Rattle.cxl_model.specs.System.{System, IsSystem}
 use Rattle.cxl_model.specs.Bytes.{slot_length}
 use Rattle.cxl_model.specs.Contents.{Contents, AreContents, content_at}
 use Rattle.cxl_model.specs.Regions.{IsRegionIn, weave_fields}
-use Rattle.cxl_bytes.specs.Bytes.{AreBytes, written, piece_after, byte_after}
+use Rattle.cxl_move.specs.Bytes.{AreBytes, written, piece_after, byte_after}
 use Rattle.cxl_machine.specs.Machine.{Live, Machine, has_host, live_at, region_window, kept_regions, under_release, with_contents}
 use Rattle.cxl_machine.specs.Sound.{IsMachine}
 use Rattle.cxl_machine.proofs.KeepingLists.{one_named}

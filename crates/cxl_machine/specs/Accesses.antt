@@ -19,7 +19,7 @@ use Rattle.cxl_reply.specs.declared.reply.Reply.TheVariants as replies
 use Rattle.cxl_reply.specs.declared.details.Downed.{Downed}
 use Rattle.cxl_reply.specs.declared.details.Via.{Via}
 use Rattle.cxl_machine.specs.Machine.{Live, Machine, region_window, weave_of, free_frames, with_contents}
-use Rattle.cxl_bytes.specs.Bytes.{bytes_at, new_pieces, written}
+use Rattle.cxl_move.specs.Bytes.{bytes_at, new_pieces, written}
 use Rattle.cxl_machine.specs.Elsewhere.{extents_of, spread_of}
 use Rattle.cxl_machine.specs.Replies.{Answer, stays, becomes, endpoint_named, at_host, within_region}
 

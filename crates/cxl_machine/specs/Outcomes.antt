@@ -3,7 +3,7 @@
 use Rattle.std.specs.Prelude.{ℕ, ◌+◌, ◌<◌, ◌≤◌, min, Bool, true, false, ⊤}
 use Rattle.cxl_script.specs.declared.command.Command.{Command}
 use Rattle.cxl_script.specs.declared.command.Command.TheVariants as commands
-use Rattle.cxl_bytes.specs.Bytes.{AreBytes}
+use Rattle.cxl_move.specs.Bytes.{AreBytes}
 
 -- how the bus let a command go
 pub data BusOutcome : Type 0 where

@@ -5,7 +5,7 @@ ghost use Rattle.std.specs.FinMap as map;
 ghost use Rattle.cxl_script.specs.declared.command.Store.{Store};
 ghost use Rattle.cxl_model.specs.Contents.{Contents};
 ghost use Rattle.cxl_machine.specs.Accesses.{frames_wanted, offset_in};
-ghost use Rattle.cxl_bytes.specs.Bytes.{new_pieces, written};
+ghost use Rattle.cxl_move.specs.Bytes.{new_pieces, written};
 ghost use Rattle.cxl_machine.specs.Copies.{copied, moved, pieces_of};
 ghost use Rattle.cxl_machine.specs.Machine.{Live, Machine, free_frames, pieces_held, with_contents};
 ghost use Rattle.cxl_machine.specs.Sound.{IsMachine};

@@ -15,3 +15,6 @@ pub mod Sims
 pub mod SimCalls
 pub mod Rolls
 pub mod Scrubs
+pub mod Chains
+pub mod Steps
+pub mod Untaken

@@ -5,7 +5,7 @@ use Rattle.std.proofs.lemmas.List.{map-set, map-append, get_or-map, length-map, 
 use Rattle.std.proofs.lemmas.List.Sums.{length-filter, count_by-le-length}
 use Rattle.std.specs.FinMap as fin
 use Rattle.std.specs.FinMap.{find}
-use Rattle.cxl_pool.specs.Pool.{zeros}
+use Rattle.cxl_media.specs.Pool.{zeros}
 use Rattle.cxl_media.specs.declared.map_media.Block.{Block}
 use Rattle.cxl_media.specs.Blocks.{Key, key_cmp, Blocks, block_at, frames_needed, is_between, scrubbed}
 use Rattle.cxl_media.specs.MediaState.{MediaState}

@@ -5,7 +5,7 @@ use Rattle.std.proofs.lemmas.Bool.{false≢true}
 use Rattle.std.proofs.lemmas.List.{get_or-map, length-map}
 use Rattle.std.specs.FinMap as fin
 use Rattle.std.specs.FinMap.{find, from_entries}
-use Rattle.cxl_pool.specs.Pool.{Frames}
+use Rattle.cxl_media.specs.Pool.{Frames}
 use Rattle.cxl_media.specs.declared.cell.Cell.{Cell}
 use Rattle.cxl_media.specs.Blocks.{Key, key_cmp}
 use Rattle.cxl_media.specs.Roll.{key_at_place, IsRoll}

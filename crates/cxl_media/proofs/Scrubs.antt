@@ -6,7 +6,7 @@ use Rattle.std.proofs.lemmas.Bool.{cases_Bool, cond-true, cond-false, false≢tr
 use Rattle.std.proofs.lemmas.Bool.Decides.{nat_tests}
 use Rattle.std.proofs.lemmas.List.{length-set}
 use Rattle.std.specs.FinMap as fin
-use Rattle.cxl_pool.specs.Pool.{Frames, IsOut, free_count}
+use Rattle.cxl_media.specs.Pool.{Frames, IsOut, free_count}
 use Rattle.cxl_media.specs.declared.cell.Cell.{Cell}
 use Rattle.cxl_media.specs.Blocks.{Key, is_between}
 use Rattle.cxl_media.specs.Table.{Cells, key_at, cell_at, frames_in, passes, NonePass}

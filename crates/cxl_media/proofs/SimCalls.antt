@@ -6,7 +6,7 @@ use Rattle.std.specs.Option.{option_map, option_copied}
 use Rattle.std.proofs.lemmas.List.{set-set, get_or-set_same}
 use Rattle.std.specs.FinMap as fin
 use Rattle.std.specs.FinMap.{FinMap}
-use Rattle.cxl_pool.specs.Pool.{Frames, frame_bytes, IsFree, free_count, zeros}
+use Rattle.cxl_media.specs.Pool.{Frames, frame_bytes, IsFree, free_count, zeros}
 use Rattle.cxl_media.specs.Table.{Cells}
 use Rattle.cxl_media.specs.Blocks.{Key, key_cmp, block_at, frames_needed}
 use Rattle.cxl_media.specs.Sim.{Shipped, Sim, sim_of, blocks_of, IsSim}

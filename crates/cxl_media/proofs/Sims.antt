@@ -7,8 +7,8 @@ use Rattle.std.proofs.lemmas.List.{get_or-set_same, get_or-set_other, get_or_pas
 use Rattle.std.proofs.lemmas.List.Sums.{sum_by-set, sum_by-cons}
 use Rattle.std.specs.FinMap as fin
 use Rattle.std.specs.FinMap.{FinMap}
-use Rattle.cxl_pool.specs.Pool.{Frames, frame_bytes, IsOut, IsFree, free_count, zeros}
-use Rattle.cxl_pool.proofs.Steps.{not_counted}
+use Rattle.cxl_media.specs.Pool.{Frames, frame_bytes, IsOut, IsFree, free_count, zeros}
+use Rattle.cxl_media.proofs.Steps.{not_counted}
 use Rattle.cxl_media.specs.Blocks.{Key, key_cmp, block_at, frames_needed}
 use Rattle.cxl_media.specs.Sim.{Sim, blocks_of, IsSim}
 use Rattle.cxl_media.proofs.Keys.{key_total, key_exact, key_is, key_is_not, keys_cases, not_none, same_some}

@@ -1,7 +1,7 @@
 -- The bytes of a block that is not in the map.
 use Rattle.std.proofs.Common.{◌≡◌, ℕ, ◌+◌, ◌-◌, ◌≤◌, length, replicate, take, ap, ◌∙◌, sym, arith}
 use Rattle.std.proofs.lemmas.List.{length-replicate, take-replicate, drop-replicate}
-use Rattle.cxl_pool.specs.Pool.{zeros}
+use Rattle.cxl_media.specs.Pool.{zeros}
 use Rattle.cxl_media.specs.Blocks.{bytes_from}
 
 pub length-zeros : length zeros ≡ 256

@@ -3,7 +3,7 @@ use Rattle.std.specs.Prelude.{ℕ, ◌+◌, ◌*◌, ◌/◌, ◌%◌, ◌<◌, 
 use Rattle.std.specs.Ordering.{nat_cmp, ordering_then}
 use Rattle.std.specs.declared.cmp.Ordering.{Ordering}
 use Rattle.std.specs.FinMap as map
-use Rattle.cxl_pool.specs.Pool.{zeros}
+use Rattle.cxl_media.specs.Pool.{zeros}
 
 -- an endpoint's node number and a block's number: block b covers the device addresses 256 * b to 256 * b + 255
 abbrev pub Key : Type 0

@@ -8,3 +8,7 @@ pub mod Index
 pub mod Sim
 pub mod Numbers
 pub mod CellList
+pub mod Pool
+pub mod Chain
+pub mod Inside
+pub mod Lending

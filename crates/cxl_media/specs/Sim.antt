@@ -4,7 +4,7 @@ use Rattle.std.specs.Option.{option_map}
 use Rattle.std.specs.Coded.{Coded, code_by, coded×, coded_ℕ, coded_list, coded_option}
 use Rattle.std.specs.FinMap as fin
 use Rattle.std.specs.FinMap.{FinMap}
-use Rattle.cxl_pool.specs.Pool.{Frames, frame_bytes, IsOut, free_count, zeros}
+use Rattle.cxl_media.specs.Pool.{Frames, frame_bytes, IsOut, free_count, zeros}
 use Rattle.cxl_media.specs.Blocks.{Key, key_cmp, Blocks}
 use Rattle.cxl_media.specs.MediaState.{MediaState}
 use Rattle.cxl_media.specs.Table.{Cells, key_at, frames_in}

@@ -1,7 +1,7 @@
 //! The bytes of a block, read and written from a place on.
 
 ghost use Rattle.std.specs.Prelude.{◌≡◌, ◌+◌, ◌%◌, ◌≤◌, length};
-ghost use Rattle.cxl_pool.specs.Pool.{zeros};
+ghost use Rattle.cxl_media.specs.Pool.{zeros};
 ghost use Rattle.cxl_media.specs.Blocks.{bytes_from, overwritten, is_between};
 
 /// Reads the bytes of a block from a place on.

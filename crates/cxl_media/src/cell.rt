@@ -3,7 +3,7 @@
 ghost use Rattle.std.specs.Prelude.{◌≡◌, ◌↔◌, IsTrue};
 ghost use Rattle.cxl_media.specs.Table.{key_at};
 
-use cxl_pool::Frame;
+use crate::Frame;
 
 /// A block of the map and the frame that holds its bytes.
 #[derive(Drop)]

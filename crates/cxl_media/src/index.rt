@@ -8,12 +8,12 @@ ghost use Rattle.cxl_media.specs.Blocks.{Key, is_between};
 ghost use Rattle.cxl_media.specs.Table.{key_at, cell_at, frames_in, passes, IsOnce, IsStop, NonePass};
 ghost use Rattle.cxl_media.specs.Hash.{home_of};
 
+use crate::Frame;
 use crate::bytes::is_between;
 use crate::cell::Cell;
 use crate::cell_list::CellList;
 use crate::probe::{home, seek, take_out};
 use cxl_enc::Memory;
-use cxl_pool::Frame;
 use std::alloc::Global;
 use std::marker::Model;
 

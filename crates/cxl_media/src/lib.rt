@@ -6,14 +6,17 @@ mod bytes;
 mod cell;
 mod cell_list;
 mod index;
+mod link;
 mod map_media;
 mod media;
 mod numbers;
+mod pool;
 mod probe;
 mod roll;
 mod sim_media;
 
 pub use map_media::MapMedia;
 pub use media::{Full, Media};
+pub use pool::{Frame, Pool};
 pub use roll::{At, Roll};
 pub use sim_media::SimMedia;

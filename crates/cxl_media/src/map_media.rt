@@ -4,7 +4,7 @@ ghost use Rattle.std.specs.Prelude.{◌≡◌, ◌+◌, ◌%◌, ◌≤◌, ◌�
 ghost use Rattle.std.specs.FinMap.{find};
 ghost use Rattle.cxl_media.specs.Blocks.{key_cmp, overwritten, is_between};
 ghost use Rattle.cxl_media.specs.MapInside.{items_of, IsItemAt};
-ghost use Rattle.cxl_pool.specs.Pool.{zeros};
+ghost use Rattle.cxl_media.specs.Pool.{zeros};
 
 use crate::bytes::{is_between, overwrite, read_block, read_zeros};
 use crate::media::{Full, Media};
@@ -163,7 +163,7 @@ impl Block {
     }
 }
 
-#[tactic(auto, unfolding(cxl_pool::specs::Pool::zeros))]
+#[tactic(auto, unfolding(crate::specs::Pool::zeros))]
 fn zero_bytes() -> [u8; 256]
     ensures { result ≡ zeros }
 {

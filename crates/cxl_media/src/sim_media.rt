@@ -4,15 +4,15 @@ ghost use Rattle.std.specs.Prelude.{◌≡◌, ◌+◌, ◌%◌, ◌≤◌, ◌�
 ghost use Rattle.std.specs.Option.{option_copied};
 ghost use Rattle.std.specs.FinMap as map;
 ghost use Rattle.cxl_enc.specs.Limits.{frame_limit};
-ghost use Rattle.cxl_pool.specs.Pool.{frame_bytes, free_count};
+ghost use Rattle.cxl_media.specs.Pool.{frame_bytes, free_count};
 ghost use Rattle.cxl_media.specs.Blocks.{Key, key_of};
 
 use crate::bytes::{overwrite, read_block, read_zeros};
 use crate::index::Index;
 use crate::media::{Full, Media};
 use crate::roll::{At, Roll};
+use crate::{Frame, Pool};
 use cxl_enc::Memory;
-use cxl_pool::{Frame, Pool};
 use std::alloc::Global;
 use std::marker::Model;
 

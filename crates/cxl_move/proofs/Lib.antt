@@ -12,3 +12,5 @@ pub mod Aligned
 pub mod Clearing
 pub mod CarryingOn
 pub mod HeldPieces
+pub mod ReadParts
+pub mod WrittenPieces

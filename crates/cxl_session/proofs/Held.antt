@@ -17,7 +17,7 @@ use Rattle.cxl_move.specs.Holdings.{told_in, AreHoldings}
 use Rattle.cxl_machine.specs.Machine.{Live, Machine, absent_window, region_window, under_release, kept_regions, holding_of}
 use Rattle.cxl_machine.specs.Sound.{IsMachine}
 use Rattle.cxl_session.specs.Standing.{HoldsMemory}
-use Rattle.cxl_bytes.specs.Woven.{HasPieces}
+use Rattle.cxl_move.specs.Woven.{HasPieces}
 
 module _ (law : WindowsThere) (m : Machine) (is : IsMachine m) where
   -- the region and its bytes

@@ -22,14 +22,14 @@ use Rattle.cxl_reply.specs.declared.reply.Reply.{Reply}
 use Rattle.cxl_reply.specs.declared.reply.Reply.TheVariants as replies
 use Rattle.cxl_machine.specs.Machine.{Live, Machine, has_host, region_window}
 use Rattle.cxl_machine.specs.Sound.{IsMachine}
-use Rattle.cxl_bytes.specs.Bytes.{bytes_at}
+use Rattle.cxl_move.specs.Bytes.{bytes_at}
 use Rattle.cxl_machine.specs.Replies.{stays}
 use Rattle.cxl_machine.specs.Accesses.{load_answer, offset_in, downed, down_answer}
 use Rattle.cxl_machine.proofs.LiveRegions.{live_is_region}
 use Rattle.cxl_session.specs.State.{SessionState}
 use Rattle.cxl_session.specs.Standing.{HoldsMemory, IsKeptIn}
 use Rattle.cxl_session.specs.inner.Places.{StandsAt, HoldsAt}
-use Rattle.cxl_bytes.specs.Woven.{IsWovenIn, HasPieces}
+use Rattle.cxl_move.specs.Woven.{IsWovenIn, HasPieces}
 use Rattle.cxl_session.specs.inner.Answering.{IsWithin}
 use Rattle.cxl_live.proofs.Hosts.{host_from, host_below}
 use Rattle.cxl_session.proofs.Held.{has_pieces}

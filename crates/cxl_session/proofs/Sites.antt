@@ -14,7 +14,7 @@ use Rattle.cxl_machine.specs.Accesses.{store_answer, store_into}
 use Rattle.cxl_machine.specs.Sound.{IsMachine}
 use Rattle.cxl_session.specs.State.{SessionState}
 use Rattle.cxl_session.specs.inner.Answering.{IsWithin, IsWrittenAs}
-use Rattle.cxl_bytes.specs.Woven.{IsWovenIn}
+use Rattle.cxl_move.specs.Woven.{IsWovenIn}
 use Rattle.cxl_session.proofs.Loads.{lies_from, lies_ends, woven_within}
 use Rattle.cxl_session.proofs.Within.{found_is}
 

@@ -21,7 +21,7 @@ use Rattle.cxl_move.specs.Holdings.{told_in, AreHoldings}
 use Rattle.cxl_reply.specs.declared.reply.Reply.{Reply}
 use Rattle.cxl_reply.specs.declared.reply.Reply.TheVariants as replies
 use Rattle.cxl_machine.specs.Accesses.{offset_in, frames_wanted, store_into}
-use Rattle.cxl_bytes.specs.Bytes.{AreBytes, piece_after, written}
+use Rattle.cxl_move.specs.Bytes.{AreBytes, piece_after, written}
 use Rattle.cxl_machine.specs.Machine.{Live, Machine, live_at, has_host, region_window, holding_of, under_release, kept_regions, free_frames, with_contents}
 use Rattle.cxl_machine.specs.Replies.{Answer, stays, becomes, ends_within, is_refusal}
 use Rattle.cxl_machine.specs.Sound.{block_told}
@@ -33,11 +33,11 @@ use Rattle.cxl_machine.proofs.LiveRegions.{live_is_region}
 use Rattle.cxl_session.specs.State.{SessionState}
 use Rattle.cxl_session.specs.Standing.{HoldsMemory}
 use Rattle.cxl_session.specs.inner.Answering.{HoldsMachine, IsWrittenAs}
-use Rattle.cxl_bytes.specs.Puts.{need_at, IsPut, PutsOne, PutsTwo}
-use Rattle.cxl_bytes.specs.Puts as puts
+use Rattle.cxl_move.specs.Puts.{need_at, IsPut, PutsOne, PutsTwo}
+use Rattle.cxl_move.specs.Puts as puts
 use Rattle.cxl_session.proofs.Fronts.{at_front, front_with, own_again, own_changed}
 use Rattle.cxl_session.proofs.Holding.{CountLaw, holdings_of, are_holdings, holdings_again, media_again, holds_next, contains_map}
-use Rattle.cxl_bytes.proofs.WrittenPieces.{put_over, written_one, written_two, one_new, two_new}
+use Rattle.cxl_move.proofs.WrittenPieces.{put_over, written_one, written_two, one_new, two_new}
 use Rattle.cxl_session.proofs.Stays.{stands_with}
 
 -- the laws that these rest on

@@ -23,7 +23,7 @@ use Rattle.cxl_machine.proofs.Present.{StaysLaw}
 use Rattle.cxl_live.proofs.Hosts.{host_from, host_below, host_within}
 use Rattle.cxl_session.specs.State.{SessionState, image_in}
 use Rattle.cxl_session.specs.Standing.{StandsFor}
-use Rattle.cxl_bytes.specs.Woven.{IsWovenIn}
+use Rattle.cxl_move.specs.Woven.{IsWovenIn}
 use Rattle.cxl_session.specs.inner.Places.{StandsAt, HasNoneOf}
 use Rattle.cxl_session.proofs.Apart.{SizeLaw}
 use Rattle.cxl_session.proofs.LiveRegions.{StaysSystem}

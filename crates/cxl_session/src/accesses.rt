@@ -8,8 +8,8 @@ ghost use Rattle.cxl_model.specs.System.{System, IsSystem};
 ghost use Rattle.cxl_model.specs.Contents.{Contents};
 ghost use Rattle.cxl_model.specs.Regions.{IsRegionIn};
 ghost use Rattle.cxl_walk.specs.Keeping.{IsKeptOf};
-ghost use Rattle.cxl_bytes.specs.Bytes.{bytes_at};
-ghost use Rattle.cxl_bytes.specs.Woven.{IsWovenIn, IsWovenSomewhere, HasPieces};
+ghost use Rattle.cxl_move.specs.Bytes.{bytes_at};
+ghost use Rattle.cxl_move.specs.Woven.{IsWovenIn, IsWovenSomewhere, HasPieces};
 ghost use Rattle.cxl_script.specs.declared.command.Command.TheVariants as commands;
 ghost use Rattle.cxl_reply.specs.declared.reply.Reply.TheVariants as replies;
 ghost use Rattle.cxl_machine.specs.Machine.{Live, Machine, has_host, region_window};
@@ -24,7 +24,6 @@ ghost use Rattle.cxl_session.specs.inner.Places.{HasNoneOf};
 use crate::endpoints::endpoints_by_slot;
 use crate::placing::put_reply;
 use crate::session::Session;
-use cxl_bytes::{carried_address, first_part, load_bytes, read_part};
 use cxl_deal::{Weave, deal};
 use cxl_enc::{FixedList, Memory, Name};
 use cxl_machine::live_regions_stay;
@@ -33,7 +32,7 @@ use cxl_model::{
     Found, Step, chain_is_the_dealing, regions_lie_in_windows, regions_share_no_byte,
     slots_are_endpoints,
 };
-use cxl_move::blocks_hold_their_pieces;
+use cxl_move::{blocks_hold_their_pieces, carried_address, first_part, load_bytes, read_part};
 use cxl_range::{extents, spread};
 use cxl_regs::Decoder;
 use cxl_reply::{Downed, Extents, Reply, Spread, Upped, Via};

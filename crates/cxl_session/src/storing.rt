@@ -12,20 +12,19 @@ ghost use Rattle.cxl_model.specs.System.{System, IsSystem};
 ghost use Rattle.cxl_model.specs.Regions.{IsRegionIn, Carries};
 ghost use Rattle.cxl_reply.specs.declared.reply.Reply.{Reply};
 ghost use Rattle.cxl_machine.specs.Machine.{Live, Machine, live_at, region_window};
-ghost use Rattle.cxl_bytes.specs.Bytes.{AreBytes};
+ghost use Rattle.cxl_move.specs.Bytes.{AreBytes};
 ghost use Rattle.cxl_machine.specs.Replies.{is_refusal, ends_within};
 ghost use Rattle.cxl_machine.specs.Accesses.{offset_in, store_answer, store_into};
 ghost use Rattle.cxl_session.specs.State.{SessionState};
 ghost use Rattle.cxl_session.specs.inner.Answering.{HoldsMachine, HoldsSome, IsWrittenAs, IsWrittenFor};
-ghost use Rattle.cxl_bytes.specs.Puts.{PutsOne, PutsTwo};
+ghost use Rattle.cxl_move.specs.Puts.{PutsOne, PutsTwo};
 
 use crate::session::Session;
-use cxl_bytes::{bytes_lie_in_pieces, device_byte, first_part, put_one, put_two};
 use cxl_media::Media;
 use cxl_model::{regions_lie_in_windows, weaves_fill_their_regions};
 use cxl_move::{
-    blocks_are_pieces, blocks_hold_their_pieces, pieces_are_carried_to_blocks,
-    put_pieces_are_contents,
+    blocks_are_pieces, blocks_hold_their_pieces, bytes_lie_in_pieces, device_byte, first_part,
+    pieces_are_carried_to_blocks, put_one, put_pieces_are_contents, put_two,
 };
 use cxl_reply::Reply;
 use cxl_script::Store;

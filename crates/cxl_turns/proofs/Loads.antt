@@ -30,7 +30,7 @@ use Rattle.cxl_pick.specs.Picked.{picked}
 use Rattle.cxl_machine.specs.Machine.{Live, RegionJob, JobKind, Creates, Releases, Machine, live_at, live_named, free_frames}
 use Rattle.cxl_model.specs.Listed.{region_limit}
 use Rattle.cxl_model.specs.Contents.{content_at}
-use Rattle.cxl_bytes.specs.Bytes.{bytes_at}
+use Rattle.cxl_move.specs.Bytes.{bytes_at}
 use Rattle.cxl_machine.specs.Jobs.{total_of}
 use Rattle.cxl_machine.specs.Outcomes.{BusOutcome, NoFault, Undone, LeftPending, ReadFailed}
 use Rattle.cxl_machine.specs.Replies.{Answer, within_region, ends_within, endpoint_named}

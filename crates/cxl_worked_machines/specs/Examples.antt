@@ -20,7 +20,7 @@ use Rattle.cxl_reply.specs.declared.reply.Reply.TheVariants as replies
 use Rattle.cxl_reply.specs.declared.details.Named.{Named}
 use Rattle.cxl_reply.specs.declared.details.ShownRow.{ShownRow}
 use Rattle.cxl_media.specs.MediaState.{MediaState}
-use Rattle.cxl_bytes.specs.Bytes.{piece_after, written}
+use Rattle.cxl_move.specs.Bytes.{piece_after, written}
 use Rattle.cxl_machine.specs.Machine.{Live, RegionJob, Machine}
 use Rattle.cxl_machine.specs.Jobs.{create_job, release_job, at_done}
 use Rattle.cxl_request.specs.Requests.{request_for}

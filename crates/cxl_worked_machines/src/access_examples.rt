@@ -6,7 +6,7 @@ ghost use Rattle.cxl_worked.specs.ExampleRegions.{region_of_two};
 ghost use Rattle.cxl_script.specs.declared.command.Command.TheVariants as commands;
 ghost use Rattle.cxl_reply.specs.declared.reply.Reply.TheVariants as replies;
 ghost use Rattle.cxl_machine.specs.Answers.{Answers};
-ghost use Rattle.cxl_bytes.specs.Bytes.{written};
+ghost use Rattle.cxl_move.specs.Bytes.{written};
 ghost use Rattle.cxl_machine.specs.Outcomes.{NoFault, ReadFailed};
 ghost use Rattle.cxl_machine.specs.Replies.{becomes, stays};
 ghost use Rattle.cxl_worked_machines.specs.Examples.{fresh, with_r0, with_both, with_unequal, r0, b, e0, e1, hb0, row_shown, nothing, first_byte, load, store, up, copy, move};

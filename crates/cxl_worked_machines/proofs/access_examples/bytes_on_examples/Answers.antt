@@ -1,6 +1,6 @@
 use Rattle.std.proofs.Common.{◌≡◌, ℕ, List, [], ◌∷◌, refl, sym, ap, ◌∙◌}
 use Rattle.std.specs.Prelude.{nat_lt}
-use Rattle.cxl_bytes.specs.Bytes.{piece_after}
+use Rattle.cxl_move.specs.Bytes.{piece_after}
 use Rattle.cxl_machine.specs.Machine.{free_frames}
 use Rattle.cxl_script.specs.declared.command.Store.{Store}
 use Rattle.cxl_reply.specs.declared.reply.Reply.TheVariants as replies

@@ -1,7 +1,7 @@
 use Rattle.std.proofs.Common.{◌≡◌, ℕ, ◌+◌, ◌-◌, List, [], ◌∷◌, refl, sym, ap, ◌∙◌}
 use Rattle.std.specs.Prelude.{nat_lt}
 use Rattle.cxl_reply.specs.declared.reply.Reply.TheVariants as replies
-use Rattle.cxl_bytes.specs.Bytes.{piece_after}
+use Rattle.cxl_move.specs.Bytes.{piece_after}
 use Rattle.cxl_machine.specs.Copies.{copy_between, move_between, frames_for, pieces_of}
 use Rattle.cxl_machine.specs.Replies.{becomes, stays}
 use Rattle.cxl_worked_machines.specs.Examples.{with_both, region_r0, region_b, r0, b}

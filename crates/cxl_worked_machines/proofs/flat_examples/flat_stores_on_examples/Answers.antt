@@ -8,7 +8,7 @@ use Rattle.cxl_worked.specs.ExampleRegions.{region_of_two}
 use Rattle.cxl_flat.specs.Memory.{byte_of, LiesBeside, LieWithin}
 use Rattle.cxl_flat.proofs.Accesses.{unmapped_stores, crossing_stores, full_stores}
 use Rattle.cxl_flat.proofs.Addresses.{host_bounds}
-use Rattle.cxl_bytes.specs.Bytes.{piece_after}
+use Rattle.cxl_move.specs.Bytes.{piece_after}
 use Rattle.cxl_worked_machines.specs.Examples.{with_r0, region_r0, nothing, first_byte}
 use Rattle.cxl_worked_machines.proofs.ExampleBytes.{one_piece, later, two_free, one_free, wants_one, wants_two_more}
 use Rattle.cxl_worked_machines.proofs.ExampleFlat.{eleven_first, as_before, not_zero, first_differs, in_r0, past_r0, is_r0, r0_there, none_there, lies_past}

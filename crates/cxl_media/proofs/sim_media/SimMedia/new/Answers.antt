@@ -1,5 +1,5 @@
 use Rattle.std.proofs.Common.{ap, sym, ◌∙◌, length}
-use Rattle.cxl_pool.specs.Pool.{free_count}
+use Rattle.cxl_media.specs.Pool.{free_count}
 use Rattle.cxl_media.specs.Table.{frames_in}
 use Rattle.cxl_media.proofs.Sims.{no_blocks, new_sim}
 use Rattle.cxl_media.proofs.sim_media.SimMedia.new.Goals as goal

@@ -1,5 +1,5 @@
 use Rattle.std.proofs.Common.{ap, arith}
-use Rattle.cxl_pool.specs.Pool.{free_count}
+use Rattle.cxl_media.specs.Pool.{free_count}
 use Rattle.std.specs.FinMap.{len}
 use Rattle.cxl_media.specs.Sim.{Sim, sim_of}
 use Rattle.cxl_media.proofs.Sims.{len_blocks}

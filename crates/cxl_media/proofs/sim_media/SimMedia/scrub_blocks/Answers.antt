@@ -2,7 +2,7 @@
 use Rattle.std.proofs.Common.{◌≡◌, ℕ, ◌+◌, ◌/◌, ◌<◌, ◌≤◌, None, inl, inr, ◌∙◌, subst, sym, ap, arith}
 use Rattle.std.proofs.lemmas.Bool.{cases_eq}
 use Rattle.std.specs.FinMap.{get, len}
-use Rattle.cxl_pool.specs.Pool.{Frames, free_count}
+use Rattle.cxl_media.specs.Pool.{Frames, free_count}
 use Rattle.cxl_media.specs.Blocks.{Key, is_between, scrubbed}
 use Rattle.cxl_media.specs.Table.{frames_in}
 use Rattle.cxl_media.specs.Sim.{Sim, sim_of, blocks_of}

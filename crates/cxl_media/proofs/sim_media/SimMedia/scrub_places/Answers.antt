@@ -1,7 +1,7 @@
 -- All blocks are gone through from the last place down.
 use Rattle.std.proofs.Common.{◌≡◌, ℕ, ◌+◌, ◌-◌, ◌∙◌, subst, sym, ap, arith}
 use Rattle.std.specs.FinMap.{len}
-use Rattle.cxl_pool.specs.Pool.{Frames, free_count}
+use Rattle.cxl_media.specs.Pool.{Frames, free_count}
 use Rattle.cxl_media.specs.Blocks.{is_between, scrubbed}
 use Rattle.cxl_media.specs.Table.{NonePass}
 use Rattle.cxl_media.specs.Sim.{Sim, sim_of, blocks_of}

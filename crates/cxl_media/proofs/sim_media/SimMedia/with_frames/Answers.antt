@@ -1,6 +1,6 @@
 use Rattle.std.proofs.Common.{ap, sym, ◌∙◌, length}
 use Rattle.std.proofs.lemmas.List.{length-replicate}
-use Rattle.cxl_pool.specs.Pool.{free_count}
+use Rattle.cxl_media.specs.Pool.{free_count}
 use Rattle.cxl_media.specs.Table.{frames_in}
 use Rattle.cxl_media.proofs.Sims.{no_blocks, new_sim, all_free}
 use Rattle.cxl_media.proofs.sim_media.SimMedia.with_frames.Goals as goal

@@ -9,7 +9,7 @@ use Rattle.cxl_machine.specs.Machine.{Machine, region_window}
 use Rattle.cxl_machine.specs.Accesses.{offset_in}
 use Rattle.cxl_window.specs.Fields.{WindowFields}
 use Rattle.cxl_session.specs.State.{SessionState}
-use Rattle.cxl_bytes.specs.Puts.{PutsOne}
+use Rattle.cxl_move.specs.Puts.{PutsOne}
 use Rattle.cxl_session.proofs.Sites.{site, region_carries, store_written}
 use Rattle.cxl_session.proofs.Stores.{one_fits, cut_is, cut_ends, refused_one, refused_two}
 use Rattle.cxl_session.proofs.Within.{found_within, kept_within}

@@ -5,7 +5,7 @@ use Rattle.cxl_model.specs.declared.found.Found.{Found}
 use Rattle.cxl_model.specs.Bytes.{LiesInSpan}
 use Rattle.cxl_model.specs.Regions.{Carries}
 use Rattle.cxl_model.specs.System.{System}
-use Rattle.cxl_bytes.specs.Woven.{IsWovenIn}
+use Rattle.cxl_move.specs.Woven.{IsWovenIn}
 use Rattle.cxl_session.specs.State.{SessionState}
 use Rattle.cxl_session.specs.inner.Places.{HoldsAt}
 use Rattle.cxl_session.proofs.Within.{name_within, found_within, kept_within}

@@ -1,2 +1,0 @@
-pub mod ReadParts
-pub mod WrittenPieces

@@ -1,5 +1,0 @@
-use Rattle.std.proofs.Common.{rules}
-use Rattle.cxl_pool.proofs.link.zero.Goals as goal
-
-pub returns : goal.returns
-returns c = search rules

@@ -1,4 +1,0 @@
-pub mod Pool
-pub mod Chain
-pub mod Inside
-pub mod Lending
