@@ -41,7 +41,7 @@ by_files_grows form old new status (ways.writes outcome answers written) = grown
 by_files_grows form old new status (ways.is_cut outcome answers short) = grown_to outcome status old.out new.out (inr short)
 by_files_grows form old new status (ways.runs_out takes is (ways.before some none)) =
     record { text = []; taken = none.taken; quiet = λ _. none.unswallowed }
-by_files_grows form old new status (ways.runs_out takes is (ways.behind outcome answers lines)) =
+by_files_grows form old new status (ways.runs_out takes is (ways.behind outcome answers unfailed lines)) =
     record { text = concat (take lines.count outcome.pieces); taken = lines.taken; quiet = λ _. lines.unswallowed }
 
 unready_grows : (s : System) (frames : ℕ) (first last : Devices) (old new : SinkState) (status : Status) → FailsToOpen s frames first last old new status
