@@ -57,3 +57,13 @@ pub(crate) const SIX_WAYS_FROM_THREE: &str =
 /// A region of six ways over six bridges with an endpoint each.
 pub(crate) const SIX_WAYS: &str =
     "0 6 0 0x100000000 0x60000000 0 0, 6 12 0 0x100000000 0x60000000 0x90 0";
+
+/// One bridge with an endpoint of 1 GiB of each kind.
+pub(crate) const ONE_OF_BOTH_KINDS: &str = "0x382, 0x1b02 0 0 0x40000000 0x40000000";
+
+/// 1 TiB over two bridges.
+pub(crate) const OVER_TWO_LONG: &str = "0x1000000000 0x10000000000 0 0 0x000e 0 1";
+
+/// Three bridges with an endpoint of 256 MiB each.
+pub(crate) const THREE_BY_ONE: &str = "0x382, 0x382, 0x382, \
+    0x1b02 0 0 0x10000000 0, 0x1b02 1 0 0x10000000 0, 0x1b02 2 0 0x10000000 0";
