@@ -3,3 +3,4 @@ pub mod Refusing
 pub mod Hosts
 pub mod TrailRoom
 mod Untrailed
+mod StandsBehind

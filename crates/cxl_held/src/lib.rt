@@ -2,6 +2,7 @@
 #![tactic(auto)]
 
 mod acting;
+mod asking;
 mod held;
 mod opening;
 mod passing;
