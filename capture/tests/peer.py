@@ -1,7 +1,8 @@
-"""A peer of cxl-regions and cxl-picture, which works out by itself what they ask of the proved calls: Linux's order of devices, register
-words, images, and who gets which chunk. Nothing but tests uses it."""
+"""A peer of cxl-regions and cxl-picture, which works out by itself what they ask of the proved calls: Linux's order of
+devices, register words, images, and who gets which chunk. It reads topologies, tables and replies with eyes of its own,
+word by word. Nothing but tests uses it."""
 
-import re
+import string
 import struct
 from dataclasses import dataclass, field
 from typing import Optional
@@ -52,7 +53,12 @@ class Node:
 
 
 KINDS = ("bridge", "switch", "endpoint")
-TOKEN = re.compile(r"""#[^\n]*|\s+|("[^"\\\n]*"|'[^'\n]*'|\[\[|\]\]|[][{},=]|[A-Za-z0-9_+-]+)""")
+NAME_LETTERS, DIGITS, HEXADECIMAL = set(string.ascii_letters + string.digits + "_"), set(string.digits), set("0123456789abcdef")
+BARE = NAME_LETTERS | set("+-")  # of a key or a value without quotes
+
+
+def is_name(word: str) -> bool:
+    return 0 < len(word) <= 15 and set(word) <= NAME_LETTERS
 
 
 class Toml:
@@ -61,12 +67,32 @@ class Toml:
     def __init__(self, text: str):
         self.tokens, at = [], 0
         while at < len(text):
-            match = TOKEN.match(text, at)
-            if not match:
+            length = self.length_at(text, at)
+            if not length:
                 raise BadInput(f"line {text.count(chr(10), 0, at) + 1} is not understood")
-            self.tokens += [match.group(1)] if match.group(1) else []
-            at = match.end()
+            token = text[at:at + length]
+            self.tokens += [] if token[0] == "#" or token.isspace() else [token]
+            at += length
         self.tokens.append("")
+
+    @staticmethod
+    def length_at(text: str, at: int) -> int:
+        """How long the token is that begins there, or the space or comment; 0 where there is none."""
+        char = text[at]
+        if char == "#":
+            return (text.find("\n", at) + 1 or len(text) + 1) - 1 - at
+        if char in "\"'":
+            end = text.find(char, at + 1)
+            inside = text[at + 1:end]
+            return 0 if end < 0 or "\n" in inside or char == '"' and "\\" in inside else end + 1 - at
+        if char.isspace():
+            return 1
+        if char in "[]{},=":
+            return 2 if text[at:at + 2] in ("[[", "]]") else 1
+        end = at
+        while end < len(text) and text[end] in BARE:
+            end += 1
+        return end - at
 
     def take(self, *wanted: str) -> str:
         token = self.tokens[0]
@@ -105,9 +131,9 @@ class Toml:
             return self.items("]", [], lambda items: items.append(self.value()))
         if token == "{":
             return self.items("}", {}, self.pair)
-        if not re.fullmatch("0x[0-9A-Fa-f_]+|0o[0-7_]+|0b[01_]+|[0-9][0-9_]*", token):
+        if token[0] not in DIGITS or not set(token) <= BARE - set("+-"):
             raise BadInput(f"{token!r} is no value")
-        return int(token.replace("_", ""), 0 if token[:1] == "0" and len(token) > 1 else 10)
+        return int(token.replace("_", ""), 0 if token[0] == "0" and len(token) > 1 else 10)
 
     def items(self, end: str, into, read_item):
         while self.tokens[0] != end:
@@ -126,7 +152,7 @@ def read_topology(file: str) -> list:
         for kind in KINDS:
             for table in top.get(kind, []):
                 node = read_node(kind, table, named, nodes)
-                if not re.fullmatch("[A-Za-z0-9_]{1,15}", node.name) or node.name in named:
+                if not is_name(node.name) or node.name in named:
                     raise BadInput(f"{node.name[:40]!r} is no name, or stands twice")
                 if any((node.parent, node.port) == (other.parent, other.port) for other in nodes):
                     raise BadInput(f"{node.name}: an earlier node stands at its port, or has its UID")
@@ -248,13 +274,45 @@ class Region:
     slots: list = field(default_factory=list)  # an endpoint's node and the start of its share, for each slot
 
 
-X, N, NAME = "0x([0-9a-f]+)", "([0-9]+)", "([A-Za-z0-9_]{1,15})"
-RANGE = f"window {N} base {X} size {X} gran {N} ways {N}"
-PLAN, SHOW = re.compile(f"plan {NAME} (ram|pmem) {RANGE}"), re.compile(f"region {NAME} (ram|pmem) {RANGE}")
-CHECK = re.compile(f"region {X} size {X} window {N} gran {N} ways {N} (ram|pmem)")
-PORT_ROW = re.compile(f"row {NAME} {N} ways {N} gran {N} targets ([0-9,]+)")
-END_ROW = re.compile(f"row {NAME} {N} ways {N} gran {N} skip {X}")
-SHOW_ROW, SLOT = re.compile(f"node {NAME} {N}" + " ([0-9a-f]{8})" * 7), re.compile(f"slot {N} {NAME} {X}")
+# The lines of a reply by the words that stand in each: those in capitals stand for what is read.
+RANGE = "window NUMBER base ADDRESS size ADDRESS gran NUMBER ways NUMBER"
+PLAN, SHOW = f"plan NAME KIND {RANGE}", f"region NAME KIND {RANGE}"
+CHECK = "region ADDRESS size ADDRESS window NUMBER gran NUMBER ways NUMBER KIND"
+PORT_ROW = "row NAME NUMBER ways NUMBER gran NUMBER targets PORTS"
+END_ROW = "row NAME NUMBER ways NUMBER gran NUMBER skip ADDRESS"
+SHOW_ROW, SLOT = "node NAME NUMBER" + " WORD" * 7, "slot NUMBER NAME ADDRESS"
+
+
+def number_of(word: str) -> Optional[int]:
+    return int(word) if word and set(word) <= DIGITS else None
+
+
+def address_of(word: str) -> Optional[int]:
+    return int(word[2:], 16) if word[:2] == "0x" and word[2:] and set(word[2:]) <= HEXADECIMAL else None
+
+
+def ports_of(word: str) -> Optional[int]:
+    """A target list, entry 0 in the lowest byte."""
+    numbers = [number_of(part) for part in word.split(",")]
+    return None if None in numbers else int.from_bytes(bytes(numbers), "little")
+
+
+READERS = {"NAME": lambda word: word if is_name(word) else None, "KIND": lambda word: word if word in ("ram", "pmem") else None,
+           "NUMBER": number_of, "ADDRESS": address_of, "PORTS": ports_of,
+           "WORD": lambda word: address_of("0x" + word) if len(word) == 8 else None}
+
+
+def read_line(form: str, line: str) -> list:
+    """What a line says in the places of a form; nothing where it is another line."""
+    wanted, words, values = form.split(" "), line.split(" "), []
+    if len(wanted) != len(words):
+        return []
+    for want, word in zip(wanted, words):
+        value = READERS[want](word) if want in READERS else word
+        if value is None or want not in READERS and word != want:
+            return []
+        values += [value] if want in READERS else []
+    return values
 
 
 class Reply:
@@ -281,28 +339,25 @@ class Reply:
 
     def add(self, line: str) -> None:
         word = line.split(" ")[0]
-        if match := PLAN.fullmatch(line) or SHOW.fullmatch(line):
-            name, kind, window, base, size, gran, ways = match.groups()
-            self.begin(Region(name, kind, int(window), int(base, 16), int(size, 16), int(gran), int(ways)))
-        elif match := CHECK.fullmatch(line):
-            base, size, window, gran, ways, kind = match.groups()
-            self.begin(Region(f"region{len(self.regions)}", kind, int(window), int(base, 16), int(size, 16), int(gran),
-                              int(ways)))
-        elif self.last and (match := PORT_ROW.fullmatch(line) or END_ROW.fullmatch(line)):
-            name, decoder, ways, gran, tail = match.groups()
-            ports = bytes(map(int, tail.split(","))) if " targets " in line else b""
-            tail = int.from_bytes(ports, "little") if ports else int(tail, 16)
-            self.put(name, Row(int(decoder), int(ways), GRANS.index(int(gran)), tail))
-        elif self.last and (match := SHOW_ROW.fullmatch(line)):
-            words = [int(word, 16) for word in match.groups()[2:]]
+        if said := read_line(PLAN, line) or read_line(SHOW, line):
+            self.begin(Region(*said))
+        elif said := read_line(CHECK, line):
+            base, size, window, gran, ways, kind = said
+            self.begin(Region(f"region{len(self.regions)}", kind, window, base, size, gran, ways))
+        elif self.last and (said := read_line(PORT_ROW, line) or read_line(END_ROW, line)):
+            name, decoder, ways, gran, tail = said
+            self.put(name, Row(decoder, ways, GRANS.index(gran), tail))
+        elif self.last and (said := read_line(SHOW_ROW, line)):
+            name, decoder, *words = said
             if words[0] + (words[1] << 32) != self.last.base or words[2] + (words[3] << 32) != self.last.size:
                 raise ValueError("another base or size")
-            self.put(match[1], Row(int(match[2]), WAYS[words[4] >> 4 & 15], words[4] & 15,
-                                   words[5] + (words[6] << 32), words[4] & (1 << 8 | HOST_ONLY)))
-        elif self.last and (match := SLOT.fullmatch(line)):
-            if int(match[1]) != len(self.last.slots):
-                raise ValueError(f"slot {match[1]}")
-            self.last.slots.append((self.endpoint(match[2]), int(match[3], 16)))
+            self.put(name, Row(decoder, WAYS[words[4] >> 4 & 15], words[4] & 15, words[5] + (words[6] << 32),
+                               words[4] & (1 << 8 | HOST_ONLY)))
+        elif self.last and (said := read_line(SLOT, line)):
+            number, name, start = said
+            if number != len(self.last.slots):
+                raise ValueError(f"slot {number}")
+            self.last.slots.append((self.endpoint(name), start))
         else:
             self.last = None
             if word == "created":
@@ -385,7 +440,7 @@ def command_of(region: Region, windows: list, nodes: list) -> str:
             f"Linux chooses the base itself; here it is {region.base:#x}.\n")
     if order != list(range(region.ways)):
         text += f"# Linux counts the window's targets first. By slot the devices are: {' '.join(names)}\n"
-    if not all(re.fullmatch("mem[0-9]+", name) for name in names):
+    if any(name[:3] != "mem" or number_of(name[3:]) is None for name in names):
         text += "# Put the kernel's name, memN, in the place of each device.\n"
     return text + (f"cxl create-region -m -t {region.kind} -d decoder0.{number} -w {region.ways} -g {region.gran} "
                    f"-s {region.size:#x} {' '.join(names[slot] for slot in order)}\n")
