@@ -1,5 +1,6 @@
 """What the tests know of the machines: their trees as folders, and what other programs say of them."""
 
+import functools
 import importlib.machinery
 import importlib.util
 import io
@@ -12,6 +13,8 @@ import tarfile
 import tempfile
 
 sys.dont_write_bytecode = True  # leaves no compiled file beside the program
+if os.access("/dev/shm", os.W_OK):
+    tempfile.tempdir = "/dev/shm"  # a host as files has a thousand, which take a disk far longer than memory
 
 HERE = os.path.dirname(os.path.abspath(__file__))
 TOP = os.path.dirname(os.path.dirname(HERE))
@@ -20,6 +23,8 @@ sys.path.insert(0, os.path.join(TOP, "python"))  # where the package cxlplan is
 MACHINES = ["x2-hb", "x4-pass-switch", "ram-and-pmem", "single-rp", "x6", "odd-ids"]
 HOLES = ["uncommitted-below", "destroyed-below", "destroy-failed"]  # hosts with a decoder released below others
 NEWER = ["two-regions", "x4-hb-rp"]  # under a newer Linux
+ODD = ["flr-k612", "fw-16k-k612"]  # of whose registers Linux knows less than there is
+GIVEN_UP = "fw-empty-locked-k612"  # a host of whose bridge Linux shows no decoder
 DEVICES = "sys/bus/cxl/devices"
 TABLE = "sys/firmware/acpi/tables/CEDT"
 
@@ -33,8 +38,9 @@ def guide():
     return text
 
 
+@functools.lru_cache(maxsize=None)
 def load(tool):
-    """A tool as a module; its file has no suffix."""
+    """A tool as a module, once; its file has no suffix."""
     loader = importlib.machinery.SourceFileLoader(tool.replace("-", "_"), os.path.join(TOOLS, tool))
     module = importlib.util.module_from_spec(importlib.util.spec_from_loader(loader.name, loader))
     sys.modules[loader.name] = module
@@ -56,6 +62,11 @@ def tree_of(machine):
     return dict(items_of(data_of(machine, "tree.tar.gz")), **{TABLE: data_of(machine, "cedt")})
 
 
+def attributes_of(copy):
+    """What a copy holds of the host's own files: neither its blocks, nor what it says of itself."""
+    return {path: item for path, item in items_of(copy).items() if not path.startswith("cxl-capture/")}
+
+
 def items_of(archive):
     items = {}
     with tarfile.open(fileobj=io.BytesIO(archive)) as opened:
@@ -66,8 +77,8 @@ def items_of(archive):
 
 
 def live_tree(host):
-    """What cxl-capture reads of one of HOLES and NEWER, as a tree. Their copies are of an earlier cxl-capture, which
-    read no regions: these are added as `cxl list` of the same moment shows them."""
+    """What cxl-capture reads of one of HOLES, NEWER and ODD, as a tree. The copies of the first two are of an earlier
+    cxl-capture, which read no regions: these are added as `cxl list` of the same moment shows them."""
     items = items_of(data_of(host, "copy.tar.gz"))
     for listed in objects_of(json.loads(data_of(host, "cxl-list.json"))):
         if "decoder" in listed and "position" not in listed and f"{DEVICES}/{listed['decoder']}" in items:

@@ -70,10 +70,9 @@ SPOILED = {
         (removed(f"{DEVICES}/endpoint3"), f"/sys/bus/cxl/devices/decoder3.0: {BELOW}.0 lies in no port's folder"),
         (removed(f"{DEVICES}/mem0"), f"/{ENDPOINT}/uport: /{MEM0} is no memory device"),
         (removed(f"{DEVICES}/decoder3.1"), f"/{ENDPOINT}: decoders are missing or elsewhere; there are decoder3.0, "),
-        (removed(f"{DEVICES}/decoder3.3"), f"/{ENDPOINT}: 1 of 3 decoders committed; known are [1, 2, 4, 6, 8, 10]"),
+        (removed(f"{DEVICES}/decoder3.3"), f"/{ENDPOINT}: 1 of 3 decoders committed; known are [1, 2, 4, 6, 8, 10, 12, 14, "),
         (removed(f"{ENDPOINT}/decoder3.3/size"), f"{BELOW}.3/size: No such file or directory"),
         (removed(f"{HB16}/decoder2.0/target_list"), f"/{HB16}/decoder2.0/target_list: No such file or directory"),
-        (removed(f"{ENDPOINT}/decoders_committed"), f"/{ENDPOINT}/decoders_committed: No such file or directory"),
         (removed(f"{MEM0}/ram"), f"/{MEM0}/ram/size: No such file or directory"),
         (removed(f"{ENDPOINT}/uport"), f"/{ENDPOINT}/uport: /{ENDPOINT}/uport is not there"),
         (removed(f"{HB16}/dport0"), f"/{ENDPOINT}/parent_dport: no dport link of /{HB16} leads"),
@@ -94,17 +93,15 @@ SPOILED = {
         (leading(f"{DEVICES}/decoder3.0", f"../../../../{ENDPOINT}/decoder3.1"),
          f"/{ENDPOINT}: decoders are missing or elsewhere; there are decoder3.0, "),
     ],
-    "sizes that are no multiple of 256 MiB": [
-        (holding(f"{MEM0}/ram/size", "0x18000000"), f"/{MEM0}/ram/size: 0x18000000 is no multiple of 256 MiB"),
-        (holding(f"{MEM0}/pmem/size", "268435457"), f"/{MEM0}/pmem/size: 0x10000001 is no multiple of 256 MiB"),
-        (holding(f"{DECODER}/start", "0x110001000"), f"{BELOW}.0/start: 0x110001000 is no multiple of 256 MiB"),
-        (holding(f"{DECODER}/size", "0x20000100"), f"{BELOW}.0/size: 0x20000100 is no multiple of 256 MiB"),
+    "sizes of a bridge's decoders that are no multiple of 256 MiB, without which no device below it is placed": [
+        (holding(f"{HB16}/decoder2.0/start", "0x110001000"), "decoder2.0/start: 0x110001000 is no multiple of 256 MiB"),
+        (holding(f"{HB16}/decoder2.0/size", "0x20000100"), "decoder2.0/size: 0x20000100 is no multiple of 256 MiB"),
+        (holding(f"{HB16}/decoder2.0/target_type", ""), "/target_type: '' is none of accelerator, expander"),
     ],
     "what the registers cannot hold, or what says nothing": [
         (holding(f"{DECODER}/interleave_ways", "5"), f"{BELOW}.0/interleave_ways: '5' is none of 1, 2, 3, 4, 6, "),
         (holding(f"{DECODER}/interleave_granularity", "300"), "/interleave_granularity: '300' is none of 256, 512, "),
         (holding(f"{DECODER}/locked", "yes"), f"{BELOW}.0/locked: 'yes' is none of 0, 1"),
-        (holding(f"{DECODER}/target_type", ""), f"{BELOW}.0/target_type: '' is none of accelerator, expander"),
         (holding(f"{DECODER}/size", "much"), f"{BELOW}.0/size: 'much' is not 1 numbers"),
         (holding(f"{DECODER}/size", "0x10000000000000000"), f"{BELOW}.0/size: '0x10000000000000000' is not 1 numbers"),
         (holding(f"{DECODER}/size", b"\xff\n\x1b[2J"), f"{BELOW}.0/size: '"),
@@ -143,7 +140,7 @@ class BadInput(unittest.TestCase):
         self.made = os.path.join(self.place, "made")
 
     def spoiled(self, *spoils):
-        items = machines.items_of(self.copy)
+        items = machines.attributes_of(self.copy)
         for spoil in spoils:
             spoil(items)
         return items
@@ -189,11 +186,11 @@ class BadInput(unittest.TestCase):
         def refuse(path, *more):
             if str(path).endswith(refused):
                 raise PermissionError(13, "Permission denied", path)
-            return open(path, *more)
+            return os_open(path, *more)
 
-        host = self.host()
+        host, os_open = self.host(), os.open
         for refused in (TABLE, f"{DECODER}/start"):
-            with mock.patch.object(CAPTURE, "open", refuse, create=True):
+            with mock.patch.object(CAPTURE.os, "open", refuse):
                 self.assert_refused(["--from", host, self.made], f": /{refused}: Permission denied")
                 with self.assertRaises(CAPTURE.BadInput):
                     CAPTURE.copy_of(CAPTURE.Folder(host))
@@ -201,12 +198,13 @@ class BadInput(unittest.TestCase):
     def test_a_place_that_is_taken(self):
         host, taken = self.host(), os.path.join(self.place, "taken")
         os.mkdir(taken)
-        self.assertEqual(run(["--from", host, taken]), (0, ""), "an empty folder may be there")
+        self.assertEqual(run(["--from", host, taken]), (3, ""), "an empty folder may be there")
         self.assert_refused(["--from", host, taken], f"{taken}: there already")
         self.assert_refused(["--from", host, os.path.join(taken, "topo.toml")], "topo.toml: there already")
         none = os.path.join(self.place, "none")
         self.assert_refused(["--from", host, os.path.join(none, "made")], f"/made: there is no folder {none}")
-        self.assertEqual(sorted(os.listdir(taken)), ["image.bin", "report.txt", "table.cedt", "topo.toml"])
+        self.assertEqual(sorted(os.listdir(taken)), [
+            "image.bin", "report.txt", "sources.json", "table.cedt", "topo.toml"])
         with self.assertRaises(CAPTURE.BadInput):
             CAPTURE.write(os.path.join(taken, "topo.toml"), {"": b""})
 
@@ -240,6 +238,9 @@ class BadInput(unittest.TestCase):
             "--from a --list b c": "--list and --from do not go together", "--from a --from b c": "--from stands there",
             "--list a --table b --registers c": "--list and --registers do not go together",
             "--copy a --leave-empty": "--copy and --leave-empty do not go together",
+            "--copy a --leave-windows": "--copy and --leave-windows do not go together",
+            "--registers --attributes a": "--attributes and --registers do not go together",
+            "--list a --table b --attributes c": "--list and --attributes do not go together",
             "--from a --list b --table c d": "--list and --from do not go together", "--from '' made": "an empty name",
             "--copy ''": "an empty name", "''": "an empty name", "--copy a --from b": "--copy and --from do not go",
         }.items():
@@ -317,6 +318,49 @@ class BadInput(unittest.TestCase):
             head[148:156] = b"%06o\0 " % sum(head)
             self.assert_packed(bytes(head) + bytes(1024), wanted)
 
+    def test_headers_that_take_long_elsewhere(self):
+        """A size of 2^62, and extended headers of so many digits or records that tarfile takes minutes: each is refused
+        before it is read."""
+        def head(kind, size, name="sys/file"):
+            header = bytearray(tarfile.TarInfo(name).tobuf(tarfile.GNU_FORMAT))
+            header[124:136], header[156:157] = b"\x80" + size.to_bytes(11, "big"), kind
+            header[148:156] = b" " * 8
+            header[148:156] = b"%06o\0 " % sum(header)
+            return bytes(header)
+
+        def long(content, count=1):
+            return (head(b"x", len(content)) + content + bytes(-len(content) % 512)) * count + head(b"5", 0)
+
+        cut = "no whole .tar.gz: an extended header is none"
+        for data, wanted in [
+            (head(b"0", 1 << 62), "sys/file: more than 1048576 bytes"), (head(b"x", 1 << 62), "more than 8192 bytes"),
+            (head(b"L", 1 << 62), "more than 8192 bytes"), (long(b"9" * 9000), "more than 8192 bytes"),
+            (long(b"9" * 8000), cut), (long(b"9" * 4000 + b" a=b\n"), cut), (long(bytes(8000)), cut), (long(b" " * 8000), cut),
+            (long(b"6 a=b\n" * 50), cut), (long(b"0 a=b\n"), cut), (long(b"7 a=b\n"), cut), (long(b"-6 a=b\n"), cut),
+            (long(b"6 a=b\n" * 20 + b"x"), cut), (long(b"12 size=1e9\n"), cut),
+            (long(b"6 a=b\n", 50), "no whole .tar.gz: more than 40 extended headers of a member"),
+            (long(b"26 size=9999999999999999\n\n"), cut), (long(b"25 size=9999999999999999\n"), "more than 1048576 bytes"),
+            (head(b"5", 0)[:400], "no whole .tar.gz"), (head(b"5", 0) + b"x" * 512, "byte 512 begins no header"),
+        ]:
+            with self.subTest(wanted, size=len(data)):
+                self.assert_packed(data, wanted)
+
+    def test_memory_that_is_a_pipe(self):
+        """It is looked at and not waited for; and so is a PCI device's BAR or configuration space."""
+        host = self.host()
+        os.mkdir(os.path.join(host, "dev"))
+        os.mkfifo(os.path.join(host, "dev", "mem"))
+        os.mkfifo(os.path.join(host, os.path.dirname(MEM0), "config"))
+        self.assert_refused(["--registers", "--from", host, self.made],
+                            "/dev/mem: no registers can be mapped at 0x100011000: no file")
+        status, said = run(["--from", host, self.made])
+        self.assertEqual(status, 3)
+        self.assertIn("the registers of hb16, hb32, mem0 could not be read: ", said)
+        self.assertIn("/config: no file\n", said)
+        os.remove(os.path.join(host, "dev", "mem"))
+        os.symlink("/dev/mem", os.path.join(host, "dev", "mem"))
+        self.assert_refused(["--registers", "--from", host, self.made], "/dev/mem: leads out of the tree")
+
     def assert_packed(self, data, wanted):
         file = os.path.join(self.place, "packed.tar.gz")
         with gzip.open(file, "wb") as packed:
@@ -335,8 +379,10 @@ class BadInput(unittest.TestCase):
 
     # ---- What is no fault, and stands in the report.
 
-    def report_of(self, *spoils):
-        self.assertEqual(run(["--from", self.packed(self.spoiled(*spoils)), self.made]), (0, ""))
+    def report_of(self, *spoils, said=""):
+        """The report, the blocks and the nodes of a tree, of which all is told where nothing is said of it."""
+        status, line = run(["--from", self.packed(self.spoiled(*spoils)), self.made])
+        self.assertEqual((status, said in line, bool(line)), (2 if said else 3, True, bool(said)), line)
         texts = {}
         for name in ("report.txt", "topo.toml"):
             with open(os.path.join(self.made, name), encoding="ascii") as file:
@@ -357,9 +403,11 @@ class BadInput(unittest.TestCase):
                           f"{size} {value}.", report)
 
     def test_a_locked_decoder_and_one_of_an_accelerator(self):
-        _, blocks, _ = self.report_of(
-            holding(f"{DECODER}/locked", "1"), holding(f"{DECODER}/target_type", "accelerator"))
+        spoils = holding(f"{DECODER}/locked", "1"), holding(f"{DECODER}/target_type", "accelerator")
+        report, blocks, _ = self.report_of(*spoils, said="outside the profile of cxlplan is decoder3.0, as report")
         self.assertEqual(blocks["mem0"][1][0][4], 0x712)
+        self.assertTrue(report.startswith("This host is outside the profile of cxlplan, whose verdict on these files is "
+                                          "none on the host:\n- decoder3.0 of mem0 is one of an accelerator (type 2), or of"))
 
     def test_passthrough(self):
         """One decoder, not committed, that lists the only port. Without a committed one below it may be unused."""
@@ -372,7 +420,9 @@ class BadInput(unittest.TestCase):
                       "the same.", report)
         report, _, nodes = self.report_of(*one, *idle, holding(f"{HB16}/decoder2.0/target_list", ""))
         self.assertEqual(nodes["hb16"]["decoders"], 1, "its list is empty, so it has a register")
-        report, _, nodes = self.report_of(*one, *idle, removed(f"{DEVICES}/decoder2.0"))
+        report, _, nodes = self.report_of(*one, *idle, removed(f"{DEVICES}/decoder2.0"), said="the registers of hb16 are ")
+        self.assertIn("- The kernel shows no decoder of hb16. It may be passthrough, or Linux gave it up. hb16 was taken as",
+                      report)
         self.assertIn(taken + "the kernel shows no decoder of it.", report)
         _, _, nodes = self.report_of(*one)
         self.assertEqual(nodes["hb16"]["decoders"], 1, "it is committed")
@@ -382,11 +432,11 @@ class BadInput(unittest.TestCase):
 
     def test_what_could_not_be_placed(self):
         decoders = [removed(f"{DEVICES}/decoder3.{i}") for i in range(4)]
-        report, _, nodes = self.report_of(*decoders, holding(f"{ENDPOINT}/decoders_committed", "0"))
+        report, _, nodes = self.report_of(*decoders, holding(f"{ENDPOINT}/decoders_committed", "0"),
+                                          said=": endpoint3 was left out, as report.txt says\n")
         self.assertIn("endpoint3 was left out: it has no decoder, or is right below the root, as in CXL 1.1.", report)
-        self.assertIn("mem0 is the endpoint of no port. It was left out.", report)
         self.assertNotIn("mem0", nodes)
-        report, _, nodes = self.report_of(*decoders, removed(f"{DEVICES}/endpoint3"))
+        report, _, nodes = self.report_of(*decoders, removed(f"{DEVICES}/endpoint3"), said=": mem0 was left out, as rep")
         self.assertIn("mem0 is the endpoint of no port. It was left out.", report)
 
     def test_bridges_of_the_table_and_of_the_kernel(self):

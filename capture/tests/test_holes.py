@@ -15,7 +15,9 @@ from test_bad_input import DECODER, DEVICES, ENDPOINT, HB16, ROOT, both, holding
 from test_list import walk, without_idle
 
 CAPTURE = machines.load("cxl-capture")
-FORMS = ["copy", "tree", "folder", "new copy", "list", "older list", "list without idle", "registers"]
+TOLD = ["copy", "tree", "folder", "new copy", "list", "older list", "list without idle"]  # forms without registers
+READ = ["registers", "unasked", "copied registers"]
+FORMS = TOLD + READ
 MADE = ["table.cedt", "topo.toml", "image.bin"]
 COMMITTED, GRANULARITY = 1 << 10, 15  # of a control word
 
@@ -23,13 +25,15 @@ COMMITTED, GRANULARITY = 1 << 10, 15  # of a control word
 BELOW, DESTROYED = "decoder1.0 decoder2.0 decoder3.0", "decoder1.0 decoder2.0"
 FAILED = "decoder1.0 decoder1.1 decoder2.0 decoder3.0"
 NOT_TOLD = {
-    "uncommitted-below": {"copy": BELOW, "list without idle": BELOW},
-    "destroyed-below": {form: DESTROYED for form in FORMS if form != "registers"},
-    "destroy-failed": {**{form: "decoder2.0" for form in FORMS if form != "registers"}, "copy": FAILED,
+    "uncommitted-below": {form: BELOW for form in TOLD},
+    "destroyed-below": {form: DESTROYED for form in TOLD},
+    "destroy-failed": {**{form: BELOW for form in TOLD}, "copy": FAILED,
                        "list without idle": "decoder1.0 decoder2.0 decoder2.1 decoder3.0"},
+    "fw-16k-k612": {form: "decoder1.0 decoder2.0 decoder3.0 decoder4.0" for form in TOLD},
     "two-regions": {"copy": "decoder1.0 decoder1.1 decoder2.0 decoder3.0 decoder3.1"},
-    "x4-hb-rp": {},
+    "x4-hb-rp": {}, "flr-k612": {},
 }
+RESET = "flr-k612"  # a device of it was reset, of which Linux knows nothing
 
 
 def older(item):
@@ -96,10 +100,12 @@ class Hosts(Case):
             listed = json.loads(machines.data_of(host, "cxl-list.json"))
             listed = walk(listed, changes[form]) if changes[form] else listed
             return ["--list", cls.save(json.dumps(listed).encode()), "--table", machines.path_of(host, "cedt")]
-        if form == "registers":
+        if form in READ:
             folder = cls.lay(tree)
             made_hosts.lay_image(host, folder)
-            return ["--from", folder, "--registers"]
+            if form == "copied registers":
+                return ["--from", cls.save(CAPTURE.copy_of(CAPTURE.Folder(folder)))]
+            return ["--from", folder, "--registers"] if form == "registers" else ["--from", folder]
         packed = cls.save(machines.pack(tree))
         return ["--from", {"copy": lambda: machines.path_of(host, "copy.tar.gz"), "tree": lambda: packed,
                            "folder": lambda: cls.lay(tree),
@@ -118,8 +124,11 @@ class Hosts(Case):
         self.assertEqual(count, 24)
 
     def test_what_is_known_is_the_hardware_s(self):
-        """Each decoder that is not named is committed where that of the hardware is, and holds the same then."""
+        """Each decoder that is not named is committed where that of the hardware is, and holds the same then; but where
+        a device was reset, of which nothing but its registers tells."""
         for (host, form), (_, _, _, folder) in self.made.items():
+            if host == RESET and form in TOLD:
+                continue
             with self.subTest(host, form=form):
                 report, nodes, blocks = self.read(folder)
                 wanted = machines.read_topology(machines.data_of(host, "topo.toml").decode())
@@ -143,26 +152,47 @@ class Hosts(Case):
         for (host, form), (words, status, said, folder) in self.made.items():
             names = NOT_TOLD[host].get(form, "").split()
             with self.subTest(host, form=form):
-                self.assertEqual((status, unknown_in(self.read(folder)[0])), (2 if names else 0, names))
+                wanted = 2 if names else 3 if form in TOLD else 0
+                self.assertEqual((status, unknown_in(self.read(folder)[0])), (wanted, names))
                 self.assertEqual(said, "" if not names else (
                     f"cxl-capture: {words[1]}: the registers of {', '.join(names)} are not known, as report.txt says; "
-                    "--registers, on the machine itself, tells them\n"))
+                    "cxl-capture, as root on the machine itself, reads them\n"))
+
+    def test_released_is_said_of_nothing_but_what_was_read(self):
+        for (host, form), (_, _, _, folder) in self.made.items():
+            with self.subTest(host, form=form):
+                report = self.read(folder)[0]
+                self.assertEqual(" was released" in report, form in READ and host in machines.HOLES + [RESET])
+
+    def test_a_reset_is_a_difference(self):
+        """And of no other host attributes and registers differ, but of two that are not wholly told."""
+        for (host, form), (_, _, _, folder) in self.made.items():
+            with open(os.path.join(folder, "sources.json"), encoding="ascii") as file:
+                found = [(item["kernel"], item["what"], item["told"], item["read"]) for item in json.load(file)["differences"]]
+            with self.subTest(host, form=form):
+                self.assertEqual(found, [("decoder3.0", "committed", "yes", "no")] if host == RESET and form in READ else [])
 
     def test_what_a_list_says_of_decoders_below_others(self):
         """Only where none is in a hole it may say that they are committed as those are."""
         for host in NOT_TOLD:
             report, before = self.read(self.made[host, "older list"][3])[0], " and what stands before one of them in"
             self.assertIn("- How many decoders are committed. Those of committed regions are", report)
-            self.assertEqual(before in report, host in machines.NEWER)
+            self.assertEqual(before in report, host in machines.NEWER + [RESET])
 
     def test_why_it_is_not_known(self):
         for host, form, sentences in [
             ("uncommitted-below", "tree", [
-                "Linux shows 3 bridges, switches and endpoints, and 3 committed decoders in them.",
-                "- decoder1.0 of hb16 was released below a committed one: its region is not committed. It was taken as "
-                "empty.", "- decoder2.0 of mem0 was released", "- decoder3.0 of mem1 was released"]),
+                "The registers of some decoders are not known. `cxl-capture`, as root on the machine itself, reads them:\n"
+                "- decoder1.0 of hb16 is below a committed one, in a region that the kernel shows as not committed. Linux may "
+                "have released it, or firmware set it and Linux could not put its region together. It was taken as not "
+                "committed.\n- decoder2.0 of mem0 is ", "Linux shows 3 bridges, switches and endpoints, and 3 committed"]),
+            ("uncommitted-below", "registers", [
+                "- decoder1.0 of hb16 was released, or reset, below a committed one.\n- decoder2.0 of mem0 was released, or"]),
+            ("flr-k612", "registers", [
+                "- decoder3.0 of mem1: committed is yes by Linux, but no in its register. It was released, or reset, and Linux "
+                "does not know."]),
             ("uncommitted-below", "copy", [
-                "The registers of some decoders are not known. `cxl-capture --registers`, on the machine itself, reads "
+                "The registers of some decoders are not known. `cxl-capture`, as root on the machine itself, reads "
                 "them:\n- decoder1.0 of hb16 may have been released. Its region is not told, as by a kernel "
                 "that makes none, or in a copy of an earlier cxl-capture. It was taken as committed.\n"]),
             ("uncommitted-below", "list without idle", [
@@ -186,34 +216,34 @@ class Hosts(Case):
                     self.assertIn(sentence, report)
 
     def test_with_registers_all_words_are_the_hardware_s(self):
-        for host in NOT_TOLD:
-            with self.subTest(host):
-                with open(os.path.join(self.made[host, "registers"][3], "image.bin"), "rb") as file:
+        for host, form in itertools.product(NOT_TOLD, READ):
+            with self.subTest(host, form=form):
+                with open(os.path.join(self.made[host, form][3], "image.bin"), "rb") as file:
                     self.assertEqual(file.read(), machines.data_of(host, "registers.bin"))
 
     @asks_the_program
     def test_check_says_of_a_capture_what_it_says_of_the_host(self):
-        """Or the status is 2. And none of the captures with a hole is sound, but for two of which no region is told."""
+        """Or the status is 2; or 3, where a reset is not seen. And none of the captures with a hole is sound, but for two of
+        which no region is told."""
         for (host, form), (_, status, _, folder) in self.made.items():
             with self.subTest(host, form=form):
                 files = [machines.path_of(host, file) for file in ("cedt", "topo.toml", "registers.bin")]
                 real = cxlplan("check", *files)
-                self.assertEqual(real[0] == 8, host in machines.HOLES)
+                self.assertEqual(real[0] == 8, host in machines.HOLES + [RESET])
                 made = cxlplan("check", *[os.path.join(folder, file) for file in MADE])
-                self.assertIn(status, (0, 2))
-                self.assertTrue(made == real or status == 2, made)
+                self.assertTrue(made == real or status == 2 or status == 3 and host == RESET, made)
                 if host in machines.HOLES and form not in ("copy", "list without idle"):
                     self.assertEqual(made, (8, "breach K2 hb16 1\n"))
 
 
-class Spoiled(Case):
+class Changed(Case):
     """The machine x2-hb, changed: each bridge and endpoint has decoder 0 of region0 committed, and three idle ones."""
 
     @classmethod
     def setUpClass(cls):
         super().setUpClass()
         cls.whole = machines.tree_of("x2-hb")
-        cls.items = machines.items_of(CAPTURE.copy_of(CAPTURE.Archive(cls.save(machines.pack(cls.whole)))))
+        cls.items = machines.attributes_of(CAPTURE.copy_of(CAPTURE.Archive(cls.save(machines.pack(cls.whole)))))
 
     def tree(self, *spoils):
         items = dict(self.items)
@@ -239,6 +269,10 @@ class Spoiled(Case):
         """Decoder 1 of a port or endpoint is counted as committed, too, and shows these attributes."""
         return both(holding(f"{port}/decoders_committed", "2"), *[
             holding(f"{port}/{decoder}/{name}", value) for name, value in attributes.items()])
+
+
+class Spoiled(Changed):
+    """By its attributes."""
 
     def test_device_memory_that_does_not_fit(self):
         """It was taken as not committed, and a word says what does not fit; the other decoders stand as they are."""
@@ -272,7 +306,7 @@ class Spoiled(Case):
         empty, free = holding(f"{HB16}/decoder2.0/size", "0x0"), holding(f"{HB16}/decoders_committed", "0")
         for said, spoils, is_taken, is_known in [
             ("its region is committed", [region1, port], True, True),
-            ("its region is not", [region1, port, reset], False, True),
+            ("its region is not", [region1, port, reset], False, False),
             ("its region is not, and it is locked", [region1, port, reset, locked], False, False),
             ("it is in no region", [region1, port, none], False, False),
             ("it is in no region, and has no bytes", [region1, port, none, empty], True, False),
@@ -296,14 +330,14 @@ class Spoiled(Case):
         """Above committed decoders: it may have a decoder, which is not committed, and then bytes are lost."""
         one = [removed(f"{DEVICES}/decoder2.{i}") for i in (1, 2, 3)] + [removed(f"{HB16}/dport1")]
         one.append(holding(f"{HB16}/decoders_committed", "0"))
-        self.assertEqual(self.made(*one)[:2], (0, []))
+        self.assertEqual(self.made(*one)[:2], (3, []))
         none = holding(f"{HB16}/decoder2.0/region", "")
         status, unknown, report, blocks = self.made(*one, none)
         self.assertEqual((status, unknown, blocks["hb16"][1]), (2, ["decoder2.0"], [(0,) * 8]))
         self.assertIn("- decoder2.0 of hb16 is in no region, though decoders below it are committed. It may be one "
                       "that is not. hb16 was taken as passthrough.\n", report)
         idle = holding(f"{ENDPOINT}/decoders_committed", "0")
-        self.assertEqual(self.made(*one, none, idle)[:2], (0, []), "nothing below it is committed")
+        self.assertEqual(self.made(*one, none, idle)[:2], (3, []), "nothing below it is committed")
 
     def test_a_list_without_the_last_committed_decoder(self):
         """It has no bytes, or it would be listed; and those below it that are not listed are not known."""
@@ -333,7 +367,7 @@ class Spoiled(Case):
                       "committed it. It was taken as not committed.", report)
 
 
-class Registers(Spoiled):
+class Registers(Changed):
     """With --registers nothing is needed of the attributes but the tree."""
 
     def files(self, *spoils):
@@ -354,11 +388,11 @@ class Registers(Spoiled):
             ("ways that there are none of", [holding(f"{DECODER}/interleave_ways", "5")], "'5' is none of 1, 2, 3,"),
             ("no attribute of a decoder", [removed(f"{DECODER}/{name}") for name in ("size", "locked", "dpa_size")],
              "No such file or directory."),
-            ("a decoder whose folder is gone", [removed(DECODER)], "No such file or directory"),
-            ("a decoder in no port's folder", [leading(f"{DEVICES}/decoder3.0", "../nowhere/decoder3.0")], "elsewhere"),
+            ("a decoder whose folder is gone", [removed(DECODER)], "decoder3.0 is not there"),
+            ("a decoder in no port's folder", [leading(f"{DEVICES}/decoder3.0", "../nowhere/decoder3.0")], "is not there"),
             ("a decoder that is not shown", [removed(f"{DEVICES}/decoder3.1")], "decoders are missing or elsewhere"),
-            ("no decoders at all", decoders, "0 decoders committed; known are"),
-            ("no number of committed ones", counts, "decoders_committed: No such file"),
+            ("no decoders at all", decoders, None),
+            ("no number of committed ones", counts, None),
             ("device memory that does not fit", [holding(f"{DECODER}/dpa_size", "0x0")], None),
             ("none committed", zero, None),
             ("no region told", [removed(f"{DECODER}/region")], None),
@@ -381,7 +415,7 @@ class Registers(Spoiled):
         made_hosts.put_words(os.path.join(device, "resource0"), 0x100c, [0x12810006])
         status, _, folder = self.capture(["--registers", "--from", host])
         report, nodes, _ = self.read(folder)
-        self.assertEqual((status, [node["name"] for node in nodes]), (0, ["hb16", "hb32", "mem1"]))
+        self.assertEqual((status, [node["name"] for node in nodes]), (2, ["hb16", "hb32", "mem1"]))
         self.assertIn("- endpoint3 was left out: it has no decoder, or is right below the root, as in CXL 1.1.", report)
 
     def test_where_registers_are_not_found(self):
@@ -396,7 +430,7 @@ class Registers(Spoiled):
                            1: "/interleave_ways: '5' is none of 1, 2, "}[wanted], said)
 
 
-class Empty(Spoiled):
+class Empty(Changed):
     """Committed decoders without bytes, which firmware sets to lock a block, and --leave-empty."""
 
     def empties(self, port, number, count):
@@ -407,10 +441,10 @@ class Empty(Spoiled):
     def test_they_are_left_out_and_named(self):
         lock = [self.empties(HB16, 2, 3), self.empties(ENDPOINT, 3, 1)]
         status, unknown, report, blocks = self.made(*lock)
-        self.assertEqual((status, unknown, len(blocks["hb16"][1])), (0, [], 4))
+        self.assertEqual((status, unknown, len(blocks["hb16"][1])), (3, [], 4))
         self.assertEqual([words[4] for words in blocks["hb16"][1]], [0x1603, 0x1700, 0x1700, 0x1700])
         status, unknown, report, blocks = self.made(*lock, words=["--leave-empty"])
-        self.assertEqual((status, unknown), (0, []))
+        self.assertEqual((status, unknown), (3, []))
         self.assertEqual([words[4] for words in blocks["hb16"][1]], [0x1603])
         self.assertEqual([words[4] for words in blocks["mem0"][1]], [0x1612, 0x1000, 0x1000, 0x1000])
         for sentence in [*[f"- Decoder {i} of hb16 is committed without bytes. It was left out.\n" for i in (1, 2, 3)],
@@ -430,7 +464,7 @@ class Empty(Spoiled):
         made = dict(zip([node["name"] for node in nodes], blocks))
         self.assertEqual((made["hb16"][0][0], len(made["hb16"][1])), (0x380, 1), "its capability word says as many")
         made = made["mem0"]
-        self.assertEqual((status, made[0][0] & 15, len(made[1])), (0, 2, 4))
+        self.assertEqual((status, made[0][0] & 15, len(made[1])), (2, 2, 4), "it has more skipped than there is")
         self.assertEqual(made[1][1:], [(0x30000000, 1, 0x10000000, 0, 0x1600, 0x30000000, 0, 7),
                                        (0, 0, 0, 0, 0x1000, 0, 0, 0), (0, 0, 0, 0, 0x1000, 0, 0, 0)])
         self.assertIn("- Decoder 1 of mem0 is committed without bytes. It was left out.\n", report)

@@ -71,7 +71,7 @@ class List(unittest.TestCase):
         words = ["--list", self.file("list.json", json.dumps(walk(listed, change) if change else listed).encode()),
                  "--table", self.file("table", table or machines.data_of(machine, "cedt")), folder]
         status, said = run(words)
-        self.assertEqual((status, unknown in said, bool(said)), (2 if unknown else 0, True, bool(unknown)), said)
+        self.assertEqual((status, unknown in said, bool(said)), (2 if unknown else 3, True, bool(unknown)), said)
         files = {}
         for name in os.listdir(folder):
             with open(os.path.join(folder, name), "rb") as file:
@@ -166,13 +166,40 @@ class List(unittest.TestCase):
         for machine in ("x4-pass-switch", "single-rp"):
             self.assertEqual(self.made(machine, swap)["topo.toml"], self.of_tree(machine)["topo.toml"])
 
-    def test_a_decoder_of_no_committed_region_is_not_committed(self):
+    def test_a_decoder_of_no_committed_region_is_not_known(self):
+        """Where the number of committed decoders is not told; where it is 0, Linux released them all."""
         def reset(item):
             item.update({"decode_state": "reset"} if "decode_state" in item else {})
+            newer("x2-hb")(item)
+            if "decoders_committed" in item:
+                item["decoders_committed"] = 0
+
+        def older(item):
+            reset(item)
+            item.pop("decoders_committed", None)
         report = self.made("x2-hb", reset)["report.txt"].decode()
         self.assertIn("and 0 committed decoders in them.", report)
-        self.assertIn("decoder3.0 of mem0 is in no committed region, and so was taken as empty, though cxl list shows "
-                      "size 0x20000000.", report)
+        self.assertIn("decoder3.0 of mem0 is not committed, and so was taken as empty, though cxl list shows size 0x20000000.",
+                      report)
+        report = self.made("x2-hb", older, unknown="decoder1.0, decoder2.0, decoder3.0, decoder4.0 are not")["report.txt"]
+        self.assertIn("and 0 committed decoders in them.", report.decode())
+        self.assertIn("- decoder3.0 of mem0 is in a region that cxl list shows as not committed. Linux may have released it, "
+                      "or firmware set it and Linux could not put its region together. It was taken as not", report.decode())
+
+    def test_one_odd_device_is_left_out(self):
+        """One without a serial number, and one with a decoder of a size that no register holds."""
+        def nameless(item):
+            if item.get("endpoint") == "endpoint4":
+                item["memdev"].pop("serial")
+
+        def uneven(item):
+            if item.get("decoder") == "decoder4.0" and "size" in item:
+                item["size"] += 1
+        for change, why in (nameless, "mem1 has no serial number."), (uneven, "size: 0x20000001 is no multiple of 256 MiB."):
+            made = self.made("x2-hb", change, unknown=": mem1 was left out, as report.txt says\n")
+            names = [node["name"] for node in machines.read_topology(made["topo.toml"].decode())]
+            self.assertEqual(names, ["hb16", "hb32", "mem0"])
+            self.assertIn(why, made["report.txt"].decode().split("\n\n")[0])
 
     def test_a_memory_device_of_no_port(self):
         listed = json.loads(machines.data_of("x2-hb", "cxl-list.json"))
@@ -206,7 +233,7 @@ class List(unittest.TestCase):
             folder = machines.lay(items, tempfile.mkdtemp(dir=self.place))
             for source in (archive, folder):
                 made, text = tempfile.mkdtemp(dir=self.place), self.file("cedt.txt", acpidump(table))
-                self.assertEqual(run(["--table", text, "--from", source, made]), (0, ""))
+                self.assertEqual(run(["--table", text, "--from", source, made]), (3, ""))
                 with open(os.path.join(made, "table.cedt"), "rb") as file:
                     self.assertEqual(file.read(), table)
                 self.assertEqual(run(["--from", source, os.path.join(self.place, "none")])[0], 1)
@@ -247,6 +274,8 @@ class List(unittest.TestCase):
         for old, new, wanted in [
             (text, "", "no JSON, as `cxl list -vvv` prints it"),
             (text, "[" * 100000, "no JSON, as `cxl list -vvv` prints it"),
+            (text, "[" + "{}," * 600000 + "{}]", "no JSON, as `cxl list -vvv` prints it: more than 524288 values"),
+            (text, "[" + "[]," * 600000 + "[]]", "no JSON, as `cxl list -vvv` prints it: more than 524288 values"),
             (text, "\ud800".encode("utf-8", "surrogatepass").decode("latin-1"), "no JSON"),
             (text, "[]", "no bus with a port is listed"), (text, "7", "no bus with a port is listed"),
             (text, '[{"memdev":"mem0"}]', "no bus with a port is listed"),
@@ -259,13 +288,11 @@ class List(unittest.TestCase):
             ('"host":"0000:11:00.0"', '"host":["x"]', "mem0: host is \"['x']\", no name"),
             ('"dport":"pci0000:20"', '"dport":""', "a dport: dport is '', no name"),
             ('"memdev":{', '"health":{', "a memdev: memdev is 'None', no name"),
-            ('"serial":', '"cereal":', "serial is 'None', no number"),
             ('"size":536870912', '"size":"512.00 MiB (536.87 MB)"', "'512.00 MiB (536.87 MB)', no number; with -u"),
             ('"size":536870912', '"size":-1', "size is '-1', no number"),
             ('"size":536870912', '"size":true', "size is 'True', no number"),
             ('"size":536870912', '"size":5e8', "size is '500000000.0', no number"),
             ('"size":536870912', '"size":1' + "0" * 5000, "size is '1000000"),
-            ('"size":536870912', '"size":536870913', "/size: 0x20000001 is no multiple of 256 MiB"),
             ('"interleave_ways":2', '"interleave_ways":5', "/interleave_ways: '5' is none of 1, 2, 3, "),
             ('"dports":[', '"dports":{}, "x":[', "root0: dports is no list"),
             ('"dports":[', '"dports":[7,', "a dport: dport is 'None', no name"),

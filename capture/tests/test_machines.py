@@ -105,7 +105,7 @@ class Machines(unittest.TestCase):
         for machine in machines.MACHINES:
             with self.subTest(machine), tempfile.TemporaryDirectory() as folder:
                 file = machines.save(self.copies[machine], os.path.join(folder, "copy.tar.gz"))
-                self.assertEqual(CAPTURE.main(["--from", file, os.path.join(folder, "made")]), 0)
+                self.assertEqual(CAPTURE.main(["--from", file, os.path.join(folder, "made")]), 3)
                 self.assertEqual(sorted(os.listdir(folder)), ["copy.tar.gz", "made"])
                 for name, data in self.files[machine].items():
                     with open(os.path.join(folder, "made", name), "rb") as made:
@@ -118,7 +118,8 @@ class Machines(unittest.TestCase):
         known = re.compile(
             r"sys/bus/cxl/devices/[a-z]+[0-9.]+|sys/firmware/acpi/tables/CEDT|sys/devices/(.*/)?(uport|parent_dport|"
             r"dport[0-9]+|decoders_committed|start|size|interleave_(ways|granularity)|locked|target_(type|list)|"
-            r"dpa_(resource|size)|region|commit|serial|(ram|pmem)/size|(pci)?[0-9a-f:.]+|mem[0-9]+|ACPI0017:00)")
+            r"dpa_(resource|size)|region|commit|serial|(ram|pmem)/size|(pci)?[0-9a-f:.]+|mem[0-9]+|ACPI0017:00|driver)|"
+            r"cxl-capture/copy\.json")
         for machine in machines.MACHINES:
             for path in machines.items_of(self.copies[machine]):
                 self.assertTrue(known.fullmatch(path), path)
@@ -134,19 +135,20 @@ class Machines(unittest.TestCase):
             self.assertEqual(everything_in(host), before)
             for name, data in self.files["odd-ids"].items():
                 with open(os.path.join(folder, "made", name), "rb") as made:
-                    self.assertEqual(made.read(), data)
+                    self.assertEqual(made.read() == data, name != "sources.json", name)
 
     def test_the_forms_on_the_machine_itself(self):
         with tempfile.TemporaryDirectory() as folder:
-            host = CAPTURE.Folder(machines.lay(machines.items_of(self.copies["x6"]), os.path.join(folder, "host")))
+            host = CAPTURE.Folder(machines.lay(machines.attributes_of(self.copies["x6"]), os.path.join(folder, "host")))
             made, copy = os.path.join(folder, "made"), os.path.join(folder, "copy.tar.gz")
             with mock.patch.object(CAPTURE, "Folder", lambda root: {"/": host}[root]):
-                self.assertEqual((CAPTURE.main([made]), CAPTURE.main(["--copy", copy])), (0, 0))
+                words = "--attributes"
+                self.assertEqual((CAPTURE.main([words, made]), CAPTURE.main([words, "--copy", copy])), (3, 0))
             for name, data in self.files["x6"].items():
                 with open(os.path.join(made, name), "rb") as file:
-                    self.assertEqual(file.read(), data)
+                    self.assertEqual(file.read() == data, name != "sources.json", name)
             with open(copy, "rb") as file:
-                self.assertEqual(file.read(), self.copies["x6"])
+                self.assertEqual(machines.attributes_of(file.read()), machines.attributes_of(self.copies["x6"]))
             self.assertEqual(sorted(os.listdir(folder)), ["copy.tar.gz", "host", "made"])
 
     def test_the_example_is_a_copy(self):

@@ -150,7 +150,7 @@ class Pictures(unittest.TestCase):
         copy = machines.save(machines.pack(machines.tree_of("x4-pass-switch")), os.path.join(self.place, "copy"))
         host, reply = os.path.join(self.place, "host"), os.path.join(self.place, "checked")
         machines.save(SWITCHED.encode(), reply)
-        self.assertEqual(machines.load("cxl-capture").main(["--from", copy, host]), 0)
+        self.assertEqual(machines.load("cxl-capture").main(["--from", copy, host]), 3)
         self.assertEqual(PICTURE.main([os.path.join(host, "table.cedt"), os.path.join(host, "topo.toml"), reply,
                                        os.path.join(self.place, "x4")]), 0)
         for name, draw in (("x4-pass-switch", lambda: os.path.join(self.place, "x4.svg")),

@@ -1,6 +1,7 @@
 """Registers that are read from the hardware, for which files stand: a machine's tree with its configuration spaces,
 BARs of its switches and endpoints, and a /dev/mem with the registers of its bridges."""
 
+import json
 import os
 import re
 import struct
@@ -31,16 +32,16 @@ class Registers(unittest.TestCase):
         """What is read of a machine, as files: its copy, its configuration spaces and its registers."""
         tree = machines.tree_of(machine)
         file = machines.save(machines.pack(tree), os.path.join(self.place, "tree"))
-        items = machines.items_of(CAPTURE.copy_of(CAPTURE.Archive(file)))
+        items = machines.attributes_of(CAPTURE.copy_of(CAPTURE.Archive(file)))
         items.update({path: item for path, item in tree.items() if path.endswith("/config")})
         host = machines.lay(items, tempfile.mkdtemp(dir=self.place))
         made_hosts.lay_hardware(machine, host)
         return host
 
-    def files(self, host):
+    def files(self, host, status=0, words=("--registers",)):
         """The files made of a host."""
         made, files = tempfile.mkdtemp(dir=self.place), {}
-        self.assertEqual(run(["--registers", "--from", host, made]), (0, ""))
+        self.assertEqual(run([*words, "--from", host, made]), (status, ""))
         for name in os.listdir(made):
             with open(os.path.join(made, name), "rb") as file:
                 files[name] = file.read()
@@ -72,8 +73,9 @@ class Registers(unittest.TestCase):
     def test_table_and_topology_are_those_of_the_tree(self):
         for machine in machines.MACHINES:
             host = self.host(machine)
-            made, plain = self.files(host), CAPTURE.files_of(CAPTURE.Folder(host))
+            made, plain = self.files(host), self.files(host, 3, ["--attributes"])
             self.assertEqual((made["table.cedt"], made["topo.toml"]), (plain["table.cedt"], plain["topo.toml"]))
+            self.assertEqual(self.files(host, 0, []), made, "they are read without being asked for")
 
     def test_hardware_is_only_read(self):
         host = self.host("odd-ids")
@@ -87,7 +89,9 @@ class Registers(unittest.TestCase):
         os_open = os.open
         with mock.patch.object(CAPTURE.os, "open", open_file):
             self.files(host)
-        self.assertEqual({flags for path, flags in opened if path.startswith(host)}, {os.O_RDONLY | os.O_SYNC})
+        flags = {path: flags for path, flags in opened if path.startswith(host)}
+        self.assertEqual({flag & (os.O_ACCMODE | os.O_CREAT | os.O_TRUNC) for flag in flags.values()}, {os.O_RDONLY})
+        self.assertEqual(flags[memory] & os.O_SYNC, os.O_SYNC)
         self.assertEqual(everything_in(os.path.join(host, "sys")), tree)
         after = os.stat(memory)
         self.assertEqual((after.st_mtime_ns, after.st_ctime_ns), (before.st_mtime_ns, before.st_ctime_ns))
@@ -98,7 +102,7 @@ class Registers(unittest.TestCase):
         self.assertIn("hb16 was taken as passthrough, without decoder registers: its component registers have no HDM "
                       "decoder capability.", report)
         self.assertNotIn("enable bits", report)
-        report = self.files(self.spoiled("config", LOCATOR, 0x16c1000b))["report.txt"].decode()
+        report = self.files(self.spoiled("config", LOCATOR, 0x16c1000b), 3)["report.txt"].decode()
         for sentence in ("The HDM decoder registers of 3 of them were", "- The enable bits.",
                          "Of the others stands what Linux shows.\n\nWhat the kernel does not show"):
             self.assertIn(sentence, report)
@@ -131,32 +135,58 @@ class Registers(unittest.TestCase):
             self.assertIn(lines, self.files(self.spoiled(file, at, word))["topo.toml"].decode())
 
     def test_what_linux_shows_otherwise_is_said(self):
-        for file, at, word, sentence in [
-            ("resource0", BLOCK + 0x20, 0x1000, "Linux shows 1 committed decoders of mem0, its registers 0."),
-            ("resource0", BLOCK + 0x20, 0x1613, "Decoder 0 of mem0 holds 10000000 00000001 20000000 00000000 00001613 "
-                                                "00000000 00000000 00000000, but what Linux shows of it is 10000000 "),
-            ("resource0", 0x100c, 0x12810006, NO_REGISTERS),
-            ("config", LOCATOR, 0x16c1000b, NOT_TOLD),
-            ("config", LOCATOR + 4, 0x2408086, NOT_TOLD),
-            ("config", 0x100, 0x10010003, NOT_TOLD),  # a capability behind itself
-            ("config", 0x100, 0xffffffff, NOT_TOLD),
+        """And where the registers are not found, what it shows is told."""
+        lost = "ister. It was released, or reset, and Linux does not know."
+        for file, at, word, status, sentence in [
+            ("resource0", BLOCK + 0x20, 0x1000, 0, "decoder3.0 of mem0: committed is yes by Linux, but no in its reg" + lost),
+            ("resource0", BLOCK + 0x20, 0x1613, 0, "decoder3.0 of mem0: granularity is 1024 by Linux, but 2048 in its register."),
+            ("resource0", BLOCK + 0x20, 0x1622, 0, "decoder3.0 of mem0: ways is 2 by Linux, but 4 in its register."),
+            ("resource0", BLOCK + 0x20, 0x712, 2, "decoder3.0 of mem0: target_type is expander by Linux, but accelerator in"),
+            ("resource0", BLOCK + 0x24, 1 << 28, 2, "decoder3.0 of mem0: skip is 0x0 by Linux, but 0x10000000 in its register."),
+            ("resource0", BLOCK + 0x10, 0x20000000, 0, "decoder3.0 of mem0: base is 0x110000000 by Linux, but 0x120000000 in"),
+            ("resource0", BLOCK + 0x40, 0x1600, 0, "decoder3.1 of mem0: committed is no by Linux, but yes in its register."),
+            ("mem", HB16 + BLOCK + 0x24, 1, 0, "decoder2.0 of hb16: targets is 0 by Linux, but 1 in its register."),
+            ("resource0", 0x100c, 0x12810006, 3, NO_REGISTERS),
+            ("config", LOCATOR, 0x16c1000b, 3, NOT_TOLD),
+            ("config", LOCATOR + 4, 0x2408086, 3, NOT_TOLD),
+            ("config", 0x100, 0x10010003, 3, NOT_TOLD),  # a capability behind itself
+            ("config", 0x100, 0xffffffff, 3, NOT_TOLD),
         ]:
             with self.subTest(file, at=at, word=word):
-                self.assertIn(sentence, self.files(self.spoiled(file, at, word))["report.txt"].decode())
+                host, made = self.spoiled(file, at, word), tempfile.mkdtemp(dir=self.place)
+                self.assertEqual(run(["--registers", "--from", host, made])[0], status)
+                with open(os.path.join(made, "report.txt"), encoding="ascii") as report:
+                    self.assertIn(sentence, report.read())
+                with open(os.path.join(made, "sources.json"), encoding="ascii") as sources:
+                    texts = [item["text"] for item in json.load(sources)["differences"]]
+                self.assertEqual(any(sentence in text for text in texts), ": " in sentence)
 
     def test_hardware_that_is_refused(self):
         for file, at, word, wanted in [
             ("resource0", 0x1000, 0xffffffff, "resource0: 0xffffffff at 0x1000 is no header of CXL capabilities"),
-            ("resource0", BLOCK, 0x1b16, "mem0 has the capability word 0x00001b16, whose number of decoders or"),
-            ("resource0", 0x100c, 0xff810005, "mem0 has the capability word 0x00000000, whose number"),
-            ("mem", HB16 + BLOCK, 0x332, "hb16 has the capability word 0x00000332, whose number of decoders or"),
+            ("resource0", BLOCK, 0x1b1d, "resource0: the capability word 0x00001b1d has a reserved number of decoders, or"),
+            ("resource0", 0x100c, 0xff810005, "resource0: the capability word 0x00000000 has a reserved number of dec"),
+            ("mem", HB16 + BLOCK, 0x332, "hb16 has the capability word 0x00000332, whose number of targets cxlplan does"),
             ("mem", HB16 + 0x1000, 0, "/dev/mem: 0x00000000 at 0x100011000 is no header of CXL capabilities"),
             ("config", LOCATOR + 12, 0x101, "resource1: no registers can be mapped at 0x1000: "),
             ("config", LOCATOR + 12, 0x10100, "resource0: no registers can be mapped at 0x11000: "),
             ("config", LOCATOR + 16, 0xffffffff, "resource0: no registers can be mapped at 0xffffffff00001000: "),
         ]:
             with self.subTest(wanted):
-                self.assertIn(wanted, self.refused(self.spoiled(file, at, word)))
+                host = self.spoiled(file, at, word)
+                self.assertIn(wanted, self.refused(host))
+                self.assert_told(host, "hb16" if file == "mem" else "mem0", wanted)
+
+    def assert_told(self, host, name, why):
+        """Without --registers the attributes of a node are told where its registers cannot be read, and a line says why."""
+        made = tempfile.mkdtemp(dir=self.place)
+        status, said = run(["--from", host, made])
+        with open(os.path.join(made, "sources.json"), encoding="ascii") as sources:
+            nodes = {node["node"]: node for node in json.load(sources)["nodes"]}
+        self.assertEqual((status, [node for node in nodes if nodes[node]["source"] == "told"]), (3, [name]))
+        self.assertEqual({decoder["source"] for decoder in nodes[name]["decoders"]}, {"told"})
+        self.assertIn(why, nodes[name]["why"])
+        self.assertEqual((f"the registers of {name} could not be read: " in said, why in said), (bool(said), bool(said)))
 
     def test_hardware_that_may_not_be_read(self):
         """Without root the configuration space ends early, and where Linux keeps /dev/mem closed it is not there."""

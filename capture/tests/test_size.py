@@ -48,7 +48,8 @@ class Size(unittest.TestCase):
             archives = self.assert_even(CAPTURE.Archive, *files)
             folders = [CAPTURE.Folder(machines.lay(tree, os.path.join(place, f"host{len(tree)}"))) for tree in trees]
             made = self.assert_even(CAPTURE.files_of, *archives)
-            self.assertEqual(self.assert_even(CAPTURE.files_of, *folders), made)
+            for files, others in zip(self.assert_even(CAPTURE.files_of, *folders), made):
+                self.assertEqual({**files, "sources.json": b""}, {**others, "sources.json": b""})
             self.assert_even(CAPTURE.copy_of, *archives)
         lists = self.assert_even(CAPTURE.Listing, *[made_hosts.made_list(*size) for size in (SMALL, LARGE)])
         listed = self.assert_even(lambda tree: CAPTURE.files_of(tree, table), *lists)
