@@ -85,7 +85,7 @@ _cxlbench() {
 }
 
 _cxl_capture() {
-    _cxl_files '--registers --copy --from --list --table --leave-empty --help'
+    _cxl_files '--registers --attributes --copy --from --list --table --leave-empty --leave-windows --help'
 }
 
 _cxl_regions() {
