@@ -1,4 +1,5 @@
-//! Answers rows as answers.c does, by the Rust crate.
+//! Answers rows as answers.c does, by the Rust crate; or, with the words `lines CEDT TOPO SCRIPT [IMAGE]`, a script line by line on a
+//! session that it keeps.
 use std::io::{BufRead, Write};
 
 fn read(name: &str) -> Vec<u8> {
@@ -31,8 +32,39 @@ fn answer<'a>(words: &[&str], files: &[Vec<u8>], room: &'a mut [u8]) -> cxlplan:
     }
 }
 
+/// What a session answers to the lines of a script, and the status behind the last.
+fn line_by_line(files: &[Vec<u8>], to: &mut impl Write) -> u8 {
+    let mut room = vec![0; 1 << 22];
+    let mut session = match cxlplan::Session::open(&files[0], &files[1], files.get(3).map(|image| &image[..]), &mut room) {
+        Ok(session) => session,
+        Err(told) => {
+            to.write_all(told.text).expect("standard output");
+            return told.status;
+        }
+    };
+    for line in files[2].split_inclusive(|byte| *byte == b'\n') {
+        let told = session.act(line, &mut room);
+        to.write_all(told.text).expect("standard output");
+        if told.status != cxlplan::DONE {
+            return told.status;
+        }
+    }
+    let mut rows = [cxlplan::Word::default(); 4];
+    let (sent, image) = (session.words(&mut rows), session.image(&mut room));
+    assert!(rows[sent.min(4)..].iter().all(|row| *row == cxlplan::Word::default()), "rows behind the words stay");
+    assert!(image.status == cxlplan::DONE && !image.text.is_empty(), "a session has an image");
+    cxlplan::DONE
+}
+
 fn main() {
     let mut to = std::io::BufWriter::new(std::io::stdout());
+    let words: Vec<String> = std::env::args().skip(1).collect();
+    if words.first().is_some_and(|word| word == "lines") {
+        let files: Vec<Vec<u8>> = words[1..].iter().map(|name| read(name)).collect();
+        let status = line_by_line(&files, &mut to);
+        to.flush().expect("standard output");
+        std::process::exit(status.into());
+    }
     for row in std::io::stdin().lock().lines() {
         let row = row.expect("a row");
         let words: Vec<&str> = row.split('\t').collect();

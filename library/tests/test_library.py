@@ -291,6 +291,12 @@ class Library(unittest.TestCase):
         """The program that keeps sessions by handle; it refuses itself memory."""
         return self.compiled(f"{HERE}/sessions.c", "-pthread", "-Wl,--wrap=malloc,--wrap=realloc,--wrap=free", *libraries)
 
+    def scripts(self):
+        """The scripts of the rows, but for the one that a session takes line after line, however long it is."""
+        found = [row for row in self.rows if row[0] == "run" and not row[3].endswith("long")]
+        self.assertGreater(len(found), 10)
+        return found
+
     def line_by_line(self, words, all_rows):
         """What a session answers to the lines of each script, given one by one, is what the program answers to the whole."""
         for row in all_rows:
@@ -300,9 +306,7 @@ class Library(unittest.TestCase):
 
     def test_sessions_with_sanitizers(self):
         made = self.sessions("-fsanitize=address,undefined", STATIC)
-        scripts = [row for row in self.rows if row[0] == "run" and not row[3].endswith("long")]
-        self.assertGreater(len(scripts), 10)
-        self.line_by_line([made], scripts)
+        self.line_by_line([made], self.scripts())
         for what in ("careless", "memory", "threads"):
             ran = subprocess.run([made, what, *HOST[:2]], stdout=subprocess.PIPE, stderr=subprocess.STDOUT, timeout=SECONDS, check=False)
             self.assertEqual((ran.returncode, ran.stdout), (0, b""), what)
@@ -325,6 +329,7 @@ class Library(unittest.TestCase):
             made = f"{self.folder}/{os.path.basename(source)}.made"
             subprocess.run([*strict, "--extern", f"cxlplan={crate}", f"-Lnative={BUILT}", "-o", made, source], check=True)
         self.compare_all(by_driver([f"{self.folder}/answers.rs.made"], self.worded))
+        self.line_by_line([f"{self.folder}/answers.rs.made"], self.scripts())
         self.check_is_the_same(f"{self.folder}/check.rs.made")
 
     def test_example(self):

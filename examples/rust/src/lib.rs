@@ -1,8 +1,9 @@
-//! libcxlplan for Rust: its functions as C declares them, and safe calls over slices. What the library proves of them, its header
-//! says; this crate is not proved.
+//! libcxlplan for Rust: its functions as C declares them, safe calls over slices, and a session that closes when it is dropped. What
+//! the library proves of them, its header says; this crate is not proved.
 #![no_std]
 
 /// The functions of `cxlplan.h`.
+#[allow(non_camel_case_types)]
 pub mod raw {
     use core::ffi::{c_int, c_void};
 
@@ -45,7 +46,25 @@ pub mod raw {
         ) -> c_int;
         pub fn cxlplan_gen(number: u32, out: *mut c_void, out_len: usize, written: *mut usize) -> c_int;
         pub fn cxlplan_version(out: *mut c_void, out_len: usize, written: *mut usize) -> c_int;
+        pub fn cxlplan_session_open(
+            session: *mut cxlplan_session, cedt: *const c_void, cedt_len: usize, topo: *const c_void, topo_len: usize,
+            image: *const c_void, image_len: usize, out: *mut c_void, out_len: usize, written: *mut usize,
+        ) -> c_int;
+        pub fn cxlplan_session_act(
+            session: *mut cxlplan_session, lines: *const c_void, lines_len: usize, out: *mut c_void, out_len: usize, written: *mut usize,
+        ) -> c_int;
+        pub fn cxlplan_session_words(session: *mut cxlplan_session, rows: *mut cxlplan_word, rows_len: usize, count: *mut usize) -> c_int;
+        pub fn cxlplan_session_image(session: *mut cxlplan_session, out: *mut c_void, out_len: usize, written: *mut usize) -> c_int;
+        pub fn cxlplan_session_close(session: *mut cxlplan_session) -> c_int;
     }
+
+    /// A session's handle, which begins null.
+    #[repr(C)]
+    pub struct cxlplan_session {
+        pub held: *mut c_void,
+    }
+
+    pub use super::Word as cxlplan_word;
 }
 
 use core::ffi::c_void;
@@ -173,4 +192,71 @@ pub fn gen(number: u32, out: &mut [u8]) -> Answer<'_> {
 pub fn version(out: &mut [u8]) -> Answer<'_> {
     // SAFETY: as in `route`.
     answer(out, |at, len, written| unsafe { raw::cxlplan_version(at, len, written) })
+}
+
+/// A register word that a session sent.
+#[repr(C)]
+#[derive(Clone, Copy, Debug, Default, PartialEq, Eq)]
+pub struct Word {
+    /// The number of its node, as `tree` tells it.
+    pub node: u32,
+    /// Where it stands in the node's block of registers, in bytes.
+    pub offset: u32,
+    pub value: u32,
+}
+
+/// A session that is opened once and asked often. It closes when it is dropped.
+pub struct Session {
+    handle: raw::cxlplan_session,
+}
+
+// SAFETY: sessions share nothing, and a handle may be used from any thread, by one call at a time.
+unsafe impl Send for Session {}
+
+impl Session {
+    /// Opens a session as `run` does before its first line, on the host after reset, or with the registers of an image. Where none
+    /// opens, the answer says why.
+    pub fn open<'a>(cedt: &[u8], topo: &[u8], image: Option<&[u8]>, out: &'a mut [u8]) -> Result<Session, Answer<'a>> {
+        let ((c, c_len), (t, t_len)) = (bytes!(cedt), bytes!(topo));
+        let (i, i_len) = image.map_or((core::ptr::null(), 0), |image| bytes!(image));
+        let mut session = Session { handle: raw::cxlplan_session { held: core::ptr::null_mut() } };
+        let handle: *mut _ = &mut session.handle;
+        // SAFETY: as in `run`; the handle is null, and apart from the slices.
+        let told = answer(out, |at, len, written| unsafe { raw::cxlplan_session_open(handle, c, c_len, t, t_len, i, i_len, at, len, written) });
+        if told.status == DONE {
+            return Ok(session);
+        }
+        Err(told)
+    }
+
+    /// Carries out lines, one or more, and tells their replies as `run` does. With status [`WRITE_FAULT`] the lines up to the reply
+    /// that is cut are carried out, and none behind it.
+    pub fn act<'a>(&mut self, lines: &[u8], out: &'a mut [u8]) -> Answer<'a> {
+        let (l, l_len) = bytes!(lines);
+        let handle: *mut _ = &mut self.handle;
+        // SAFETY: as in `route`; this handle alone names the session.
+        answer(out, |at, len, written| unsafe { raw::cxlplan_session_act(handle, l, l_len, at, len, written) })
+    }
+
+    /// How many register words the last lines sent; as many of them as there are rows for are put there, from the first on.
+    pub fn words(&mut self, rows: &mut [Word]) -> usize {
+        let mut count = 0;
+        // SAFETY: as in `act`.
+        unsafe { raw::cxlplan_session_words(&mut self.handle, rows.as_mut_ptr(), rows.len(), &mut count) };
+        count
+    }
+
+    /// The register image as it is, as the bytes of its file.
+    pub fn image<'a>(&mut self, out: &'a mut [u8]) -> Answer<'a> {
+        let handle: *mut _ = &mut self.handle;
+        // SAFETY: as in `act`.
+        answer(out, |at, len, written| unsafe { raw::cxlplan_session_image(handle, at, len, written) })
+    }
+}
+
+impl Drop for Session {
+    fn drop(&mut self) {
+        // SAFETY: as in `act`; nothing names the session behind this.
+        unsafe { raw::cxlplan_session_close(&mut self.handle) };
+    }
 }
