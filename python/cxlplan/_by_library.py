@@ -55,8 +55,8 @@ class LibraryEngine:
     def windows(self, cedt: bytes, topo: bytes) -> list:
         return texts.windows(told(self.library.windows(cedt, topo)))
 
-    def decoders(self, cedt: bytes, topo: bytes, image: bytes) -> list:
-        return texts.decoders(told(self.library.decoders(topo, image)))
+    def decoders(self, cedt: bytes, topo: bytes, image: bytes, only_used: bool = False) -> list:
+        return texts.decoders(told(self.library.decoders(topo, image)), only_used)
 
     def breaches(self, cedt: bytes, topo: bytes, image: bytes) -> list:
         status, data = self.library.breaches(cedt, topo, image)

@@ -82,7 +82,7 @@ class ProgramEngine:
     def windows(self, cedt: bytes, topo: bytes) -> list:
         raise NoEngine(NO_LIBRARY)
 
-    def decoders(self, cedt: bytes, topo: bytes, image: bytes) -> list:
+    def decoders(self, cedt: bytes, topo: bytes, image: bytes, only_used: bool = False) -> list:
         raise NoEngine(NO_LIBRARY)
 
     def breaches(self, cedt: bytes, topo: bytes, image: bytes) -> list:

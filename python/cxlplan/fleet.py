@@ -1,57 +1,92 @@
 """Thousands of captures judged in process, on as many processors as there are: folders that cxl-capture made.
 
-`judge` is one host, for other engines to spread over machines; `Fleet` is all of them on this one, kept as JSON lines or in SQLite."""
+`judge` is one host, for other engines to spread over machines. `File` keeps verdicts as JSON lines; `database` has them in SQLite, and
+`workers` the processors."""
 
+import errno
+import fcntl
 import json
 import os
-import signal
-import sqlite3
-from concurrent.futures import FIRST_COMPLETED, ProcessPoolExecutor, wait
-from typing import Iterable, Iterator, Optional
+from hashlib import blake2b
+from typing import Callable, Iterable, Iterator
 
 from . import texts
 from ._engine import engine
-from .errors import CxlError, NoEngine, fault_of
-from .host import FILES, read_file
+from .errors import BadFile, CxlError, NoEngine, fault_of
+from .files import Nameless, write_all
+from .incoming import FILES, read_within, why_not
 
 SCHEMA = "cxldesk/1"
+VERDICTS = ("sound", "breach", "fault")
 CHUNK = 100  # hosts that a worker is given at once
-TABLES = """
-create table if not exists hosts (host text primary key, verdict text, status integer, text text, regions integer, stamp integer);
-create table if not exists breaches (host text, rule text, node text, decoder integer);
-create table if not exists regions (host text, name text, base integer, size integer, window integer, gran integer, ways integer,
-    kind text, endpoints text);
-create table if not exists decoders (host text, node text, number integer, committed integer, locked integer, base integer,
-    size integer, ways integer, gran integer, targets text, skip integer);
-create index if not exists breaches_host on breaches (host);
-create index if not exists regions_host on regions (host);
-create index if not exists decoders_host on decoders (host);
-"""
 
+
+# ---- Where hosts are.
 
 def folders_in(places: Iterable[str]) -> Iterator[str]:
     """Each folder with a host's files, in and below these places, in the order of their names."""
-    stack = list(reversed(list(places)))
+    return (folder for folder, why in hosts_in(places) if not why)
+
+
+def hosts_in(places: Iterable[str]) -> Iterator[tuple]:
+    """Each folder that has some of a host's files, in and below these places, in the order of their names; and with a reason each folder
+    that cannot be looked into, and each place without a host. A place that stands in another, or was named before, is passed over."""
+    for place in apart(list(places)):
+        is_empty = True
+        for folder, why in below(place):
+            is_empty = False
+            yield folder, why
+        if is_empty:
+            yield place, f"{place}: no host is in it"
+
+
+def apart(places: list) -> list:
+    """These places without those that lie in others, or are others by another name."""
+    kept, last = [], None
+    for top, at in sorted((os.path.join(os.path.realpath(it), ""), at) for at, it in enumerate(places)):
+        if last is None or not top.startswith(last):
+            kept.append(at)
+            last = top
+    return [places[at] for at in sorted(kept)]
+
+
+def below(place: str) -> Iterator[tuple]:
+    """The hosts in and below one place."""
+    stack = [place]
     while stack:
         folder = stack.pop()
         try:
             with os.scandir(folder) as entries:
                 found = sorted(entries, key=lambda it: it.name)
-        except OSError:
-            found = []
-        names = {it.name for it in found}
-        if names.issuperset(FILES):
-            yield folder
+        except OSError as fault:
+            yield folder, f"{folder}: {why_not(fault)}"
+            continue
+        if not {it.name for it in found}.isdisjoint(FILES):
+            yield folder, ""
         stack += [it.path for it in reversed(found) if it.is_dir(follow_symlinks=False)]
 
 
 def stamp_of(folder: str) -> int:
-    """When a host's files were last written, in nanoseconds."""
-    try:
-        return max(os.stat(os.path.join(folder, name)).st_mtime_ns for name in FILES)
-    except OSError:
+    """A number that is another one where a file of a host is another, or was written or changed since: of their sizes, places on the disk,
+    and times, also that of their last change, which nobody sets. 0 where none of the files is there."""
+    marks = []
+    for name in FILES:
+        try:
+            it = os.stat(os.path.join(folder, name))
+            marks.append((it.st_size, it.st_mtime_ns, it.st_ctime_ns, it.st_ino, it.st_mode))
+        except (OSError, ValueError) as fault:
+            marks.append((getattr(fault, "errno", None) or 0,))
+    if all(it in ((errno.ENOENT,), (errno.ENOTDIR,)) for it in marks):
         return 0
+    return digest_of(repr(marks).encode())
 
+
+def digest_of(data: bytes) -> int:
+    """A positive number of 63 bits for these bytes, which SQLite takes."""
+    return (int.from_bytes(blake2b(data, digest_size=8).digest(), "big") >> 1) | 1
+
+
+# ---- Verdicts.
 
 def judge(folder: str, decoders: bool = False) -> dict:
     """What is to be said of the host in a folder: `verdict` is sound, breach or fault. Of its decoders those are told that are committed,
@@ -59,7 +94,7 @@ def judge(folder: str, decoders: bool = False) -> dict:
     said = {"schema": SCHEMA, "host": folder, "verdict": "fault", "status": 2, "text": "", "regions": [], "breaches": [],
             "stamp": stamp_of(folder)}
     try:
-        files = [read_file(os.path.join(folder, name)) for name in FILES]
+        files = [read_within(folder, name) for name in FILES]
         status, data = engine().check(*files)
         text = data.decode("ascii", "replace")
         said["status"] = status
@@ -71,12 +106,20 @@ def judge(folder: str, decoders: bool = False) -> dict:
         else:
             raise fault_of(status, text)
         if decoders:
-            said["decoders"] = [it.as_dict() for it in engine().decoders(*files) if it.committed or it.commit or it.error]
+            said["decoders"] = [it.as_dict() for it in engine().decoders(*files, only_used=True)]
     except NoEngine:
         raise  # it is none of this host
     except CxlError as fault:
         said.update(status=fault.status, text=fault.text)
+    except Exception as fault:  # pylint: disable=broad-except
+        said.update(verdict="fault", status=5, text=f"not understood: {type(fault).__name__}")  # one host does not end the others' run
     return said
+
+
+def not_judged(folder: str, why: str) -> dict:
+    """The verdict on a folder that cannot be looked into."""
+    return {"schema": SCHEMA, "host": folder, "verdict": "fault", "status": 2, "text": why, "regions": [], "breaches": [],
+            "stamp": stamp_of(folder)}
 
 
 def places_of(files: list) -> list:
@@ -87,120 +130,144 @@ def places_of(files: list) -> list:
         return []
 
 
-def judge_all(folders: list, decoders: bool) -> list:
-    """A worker's share."""
-    return [judge(folder, decoders) for folder in folders]
+# ---- Where verdicts are kept.
 
-
-class Lines:
-    """Verdicts as JSON lines, of a file or of an open output. Of a file that is there the hosts that it holds are passed over."""
+class Keeper:
+    """Where verdicts go. `done` tells of each host that it has its stamp and its verdict."""
 
     decoders = False
+    row: Callable  # makes of a verdict what `add` takes; in the worker
 
-    def __init__(self, file: Optional[str], output=None) -> None:
-        self.done = self.kept(file) if file is not None and os.path.exists(file) else {}
-        self.own = open(file, "a", encoding="utf-8") if file is not None else None
-        self.file = self.own or output
+    def __init__(self) -> None:
+        self.done: dict = {}
 
-    @staticmethod
-    def kept(file: str) -> dict:
-        """The hosts of a file with their stamps; a last line that was cut off is taken away."""
-        done, whole = {}, 0
-        with open(file, "rb+") as lines:
-            for line in lines:
-                if not line.endswith(b"\n"):
-                    break
-                whole += len(line)
-                said = json.loads(line)
-                done[said["host"]] = said["stamp"]
-            lines.truncate(whole)
-        return done
+    def drop(self, hosts: set) -> None:
+        """Takes hosts out: those that are gone, or are to be judged anew."""
 
-    def add(self, verdicts: list) -> None:
-        self.file.write("".join(json.dumps(said) + "\n" for said in verdicts))
-        self.file.flush()
+    def add(self, rows: list) -> None:
+        """Takes what `row` made of verdicts, all or none."""
+        raise NotImplementedError
 
     def close(self) -> None:
-        if self.own:
-            self.own.close()
+        """Gives it back."""
 
 
-class Database:
-    """Verdicts in a SQLite file, with the tables hosts, breaches, regions and decoders."""
+def text_row(said: dict) -> str:
+    return json.dumps(said) + "\n"
 
-    decoders = True
+
+class Lines(Keeper):
+    """Verdicts as JSON lines on an open output."""
+
+    row = staticmethod(text_row)
+
+    def __init__(self, output) -> None:
+        super().__init__()
+        self.output = output
+
+    def add(self, rows: list) -> None:
+        self.output.write("".join(rows))
+        self.output.flush()
+
+
+class File(Keeper):
+    """Verdicts as JSON lines in a file, a line for each host. A file that is there is gone on with, and has to be one of these."""
+
+    row = staticmethod(text_row)
+    begin = b'{"schema": "cxldesk/1", "host": "'
 
     def __init__(self, file: str) -> None:
-        self.base = sqlite3.connect(file)
-        self.base.executescript("pragma journal_mode = wal; pragma synchronous = normal;" + TABLES)
-        self.done = dict(self.base.execute("select host, stamp from hosts"))
-
-    def add(self, verdicts: list) -> None:
-        """Adds verdicts, in the place of older ones of the same hosts, all or none."""
-        with self.base:
-            for table in ("hosts", "breaches", "regions", "decoders"):
-                self.base.executemany(f"delete from {table} where host = ?", [(it["host"],) for it in verdicts
-                                                                             if it["host"] in self.done])
-            self.base.executemany("insert into hosts values (?, ?, ?, ?, ?, ?)", [
-                (it["host"], it["verdict"], it["status"], it["text"], len(it["regions"]), it["stamp"]) for it in verdicts])
-            self.base.executemany("insert into breaches values (?, ?, ?, ?)", [
-                (it["host"], *place.values()) for it in verdicts for place in it["breaches"]])
-            self.base.executemany("insert into regions values (?, ?, ?, ?, ?, ?, ?, ?, ?)", [
-                region_row(it["host"], region) for it in verdicts for region in it["regions"]])
-            self.base.executemany("insert into decoders values (?, ?, ?, ?, ?, ?, ?, ?, ?, ?, ?)", [
-                decoder_row(it["host"], decoder) for it in verdicts for decoder in it.get("decoders", [])])
-
-    def close(self) -> None:
-        self.base.close()
-
-
-def region_row(host: str, region: dict) -> tuple:
-    return (host, *(region[name] for name in ("name", "base", "size", "window", "gran", "ways", "kind")),
-            " ".join(slot["endpoint"] for slot in region["slots"]))
-
-
-def decoder_row(host: str, decoder: dict) -> tuple:
-    targets = decoder["targets"]
-    return (host, *(decoder[name] for name in ("node", "number", "committed", "lock", "base", "size", "ways", "gran")),
-            None if targets is None else " ".join(map(str, targets)), decoder["skip"])
-
-
-def chunks_of(folders: Iterator[str], done: dict) -> Iterator[list]:
-    """Shares of the hosts that are not done yet, or were written since."""
-    share: list = []
-    for folder in folders:
-        if folder in done and done[folder] == stamp_of(folder):
-            continue
-        share.append(folder)
-        if len(share) == CHUNK:
-            yield share
-            share = []
-    if share:
-        yield share
-
-
-def judged(shares: list, decoders: bool, jobs: int) -> Iterator[list]:
-    """The verdicts of each share, as they come, over so many processors."""
-    if jobs < 2 or len(shares) < 2:
-        yield from (judge_all(share, decoders) for share in shares)
-        return
-    # a stop by the keyboard is this process's to take: what workers have begun is ended, and no more is
-    with ProcessPoolExecutor(jobs, initializer=signal.signal, initargs=(signal.SIGINT, signal.SIG_IGN)) as pool:
+        super().__init__()
+        self.file = os.path.realpath(file)
+        self.end = taken_file(self.file)
+        self.places: dict = {}  # of each host's line, the last where there are more
+        self.whole = self.count = 0
         try:
-            yield from gathered(pool, shares, decoders, jobs)
+            self.take_up()
         except BaseException:
-            pool.shutdown(wait=True, cancel_futures=True)
+            os.close(self.end)
             raise
 
+    def take_up(self) -> None:
+        """Reads the lines that are there; one at the end that was cut off is taken away."""
+        with open(self.file, "rb") as lines:
+            for line in lines:
+                if not line.endswith(b"\n"):
+                    if not line.startswith(self.begin) and not self.begin.startswith(line):
+                        raise fault_in(self.file, "is there already, and no output of fleet")
+                    break
+                self.take(line)
+        os.ftruncate(self.end, self.whole)
+        os.lseek(self.end, self.whole, os.SEEK_SET)
 
-def gathered(pool, shares: list, decoders: bool, jobs: int) -> Iterator[list]:
-    """The verdicts of each share, of which a few wait for a worker at a time."""
-    waiting: set = set()
-    for share in shares:
-        waiting.add(pool.submit(judge_all, share, decoders))
-        if len(waiting) > 2 * jobs:
-            ready, waiting = wait(waiting, return_when=FIRST_COMPLETED)
-            yield from (it.result() for it in ready)
-    while waiting:
-        ready, waiting = wait(waiting, return_when=FIRST_COMPLETED)
-        yield from (it.result() for it in ready)
+    def take(self, line: bytes) -> None:
+        self.count += 1
+        try:
+            said = json.loads(line)
+            host = os.path.abspath(said["host"])
+            if said["schema"] != SCHEMA or said["verdict"] not in VERDICTS:
+                raise ValueError
+            self.done[host] = said["stamp"], said["verdict"]
+        except (ValueError, KeyError, TypeError, RecursionError):
+            why = "is there already, and no output of fleet" if self.count == 1 else f"line {self.count} is none that fleet wrote"
+            raise fault_in(self.file, why) from None
+        self.places[host] = self.whole, len(line)
+        self.whole += len(line)
+
+    def drop(self, hosts: set) -> None:
+        """Makes the file anew without these hosts' lines, and without lines that others of the same host followed."""
+        if not hosts and self.count == len(self.places):
+            return
+        kept = {host: place for host, place in self.places.items() if host not in hosts}
+        data = os.pread(self.end, self.whole, 0)
+        try:
+            with Nameless(os.path.dirname(self.file)) as made:
+                whole = b"".join(data[at:at + size] for at, size in sorted(kept.values()))
+                write_all(made.end, whole)
+                end = lock(os.dup(made.end), self.file)
+                made.put_over(self.file)
+        except OSError as fault:
+            raise fault_in(self.file, why_not(fault)) from None
+        os.close(self.end)
+        self.end, self.whole, self.places, self.count = end, len(whole), kept, len(kept)
+
+    def add(self, rows: list) -> None:
+        data = "".join(rows).encode()
+        try:
+            write_all(self.end, data)
+        except OSError as fault:
+            os.ftruncate(self.end, self.whole)
+            raise fault_in(self.file, why_not(fault)) from None
+        self.whole += len(data)
+
+    def close(self) -> None:
+        os.close(self.end)
+
+
+def fault_in(file: str, why: str) -> BadFile:
+    return BadFile(f"{file}: {why}", 1, "cannot write", file)
+
+
+def taken_file(file: str) -> int:
+    """An open file for verdicts, which no other run has. It is made where it is not there."""
+    if os.path.lexists(file) and not os.path.isfile(file):
+        raise fault_in(file, "is a folder" if os.path.isdir(file) else "is no plain file")
+    try:
+        end = lock(os.open(file, os.O_RDWR | os.O_CREAT | os.O_CLOEXEC | os.O_NOCTTY | os.O_NONBLOCK, 0o666), file)
+        is_it = os.path.samestat(os.fstat(end), os.stat(file))  # and none that another run has put another one over
+    except (OSError, ValueError) as fault:
+        raise fault_in(file, why_not(fault)) from None
+    if not is_it:
+        os.close(end)
+        raise fault_in(file, "another run writes it")
+    return end
+
+
+def lock(end: int, file: str) -> int:
+    """The open file, which is this run's alone until it is closed."""
+    try:
+        fcntl.flock(end, fcntl.LOCK_EX | fcntl.LOCK_NB)
+    except BlockingIOError:
+        os.close(end)
+        raise fault_in(file, "another run writes it") from None
+    return end

@@ -1,7 +1,6 @@
 """A host: its table, its topology and its registers, with what is asked of them."""
 
 import os
-import sys
 from dataclasses import dataclass
 from functools import cached_property
 from typing import Optional
@@ -10,10 +9,8 @@ from . import texts
 from ._engine import engine
 from .errors import BadFile, Breach, CxlError, NoEngine, Refusal, fault_of
 from .facts import Decoder, Down, Node, Place, Planned, Position, Region, Up, Window
+from .incoming import FILES, read_file, read_within
 from .session import Session, create_line
-
-MOST_BYTES = 1 << 20  # of a file
-FILES = ("table.cedt", "topo.toml", "image.bin")  # of a folder that cxl-capture made
 
 
 def answered(pair: tuple) -> str:
@@ -25,19 +22,6 @@ def answered(pair: tuple) -> str:
     if status != 8:
         raise fault_of(status, text)
     raise texts.breach(text) if text.startswith("breach ") else texts.refusal(text)
-
-
-def read_file(name: str) -> bytes:
-    """A file's bytes, or those of standard input for `-`."""
-    try:
-        with (open(sys.stdin.fileno(), "rb", closefd=False) if name == "-" else open(name, "rb")) as file:
-            data = file.read(MOST_BYTES + 1)
-    except OSError as fault:
-        why = "is a folder" if isinstance(fault, IsADirectoryError) else fault.strerror
-        raise BadFile(f"{name}: {why}", 2, "cannot read", name) from None
-    if len(data) > MOST_BYTES:
-        raise BadFile(f"{name}: more than {MOST_BYTES} bytes", 12, "too large", name)
-    return data
 
 
 @dataclass(frozen=True)
@@ -102,9 +86,9 @@ class Host:
             raise BadFile(f"{folder}: {why}", 2, "no folder", folder)
         names = [os.path.join(folder, file) for file in FILES]
         for name in names:
-            if not os.path.isfile(name):
+            if not os.path.lexists(name):
                 raise BadFile(f"{name}: is not there; cxl-capture makes {', '.join(FILES)}", 2, "missing", name)
-        return cls(*map(read_file, names), name=folder, files=tuple(names))
+        return cls(*(read_within(folder, file) for file in FILES), name=folder, files=tuple(names))
 
     @property
     def _bytes(self) -> tuple:

@@ -13,7 +13,8 @@ from typing import NoReturn, Optional
 from .editing import places_of, reset_image
 from .errors import BadFile, Breach, CxlError, Refusal
 from .facts import ShownRow, Slot
-from .host import Host, read_file
+from .host import Host
+from .incoming import read_file
 from .planning import turns
 from .room import table_with
 from .session import create_line

@@ -108,9 +108,13 @@ def node(words: list) -> Node:
                 number(said.get("pmem", "0")))
 
 
-def decoders(text: str) -> list:
-    """Lines `decoder NODE I ..`; those of blocks are passed over."""
-    return [decoder(line) for line in lines_of(text) if line.startswith("decoder ")]
+USED = (" commit 1 ", " committed 1 ", " error 1 ")  # in the line of a decoder that is committed, or was to be
+
+
+def decoders(text: str, only_used: bool = False) -> list:
+    """Lines `decoder NODE I ..`; those of blocks are passed over. Of an idle decoder nothing is told where only used ones are wanted."""
+    return [decoder(line) for line in lines_of(text)
+            if line.startswith("decoder ") and (not only_used or any(word in line for word in USED))]
 
 
 def decoder(line: str) -> Decoder:
@@ -181,9 +185,9 @@ def region_of(words: list, slots: list) -> Region:
 
 def down(line: str) -> Down:
     words = line.split(" ")
-    if words[:1] != ["down"]:
+    end = len(words) - 4  # a region may have the name of any word
+    if words[:1] != ["down"] or words[end:end + 1] != ["endpoint"]:
         raise broken(line)
-    end = words.index("endpoint")
     via = [] if words[9] == "-" else [word.rsplit(":", 2) for word in words[9:end]]
     return Down(number(words[1]), words[3], int(words[5]), int(words[7]),
                 tuple(Via(node, int(decoder), int(entry)) for node, decoder, entry in via), words[end + 1], number(words[end + 3]))

@@ -7,7 +7,8 @@ import sys
 from typing import Callable, NoReturn
 
 from .errors import BadFile, BadTable, BadTopology, BadWords, CxlError
-from .host import Host, read_file
+from .host import Host
+from .incoming import read_file
 
 
 class Words(argparse.ArgumentParser):
@@ -35,6 +36,8 @@ class Words(argparse.ArgumentParser):
 
 def tell(text: str, end: str = "\n") -> bool:
     """Prints a text, and gives whether it could be; quietly, where the reader of a pipe is gone."""
+    if sys.stdout is None:
+        raise BadFile("standard output: is closed", 1, "cannot write")
     try:
         print(text, end=end, flush=True)
     except OSError as fault:
@@ -54,7 +57,8 @@ def carried_out(tool: str, help_text: str, work: Callable[[list], int], words: l
         return work(words)
     except (CxlError, OSError) as fault:
         said = str(fault).split("\n", maxsplit=1)[0]
-        print(re.sub("[^ -~]", "?", f"{tool}: {said}"), file=sys.stderr)
+        if sys.stderr is not None:
+            print(re.sub("[^ -~]", "?", f"{tool}: {said}"), file=sys.stderr)
         return 1
 
 

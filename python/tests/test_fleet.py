@@ -8,10 +8,11 @@ import subprocess
 import sys
 import time
 import unittest
+from contextlib import closing
 
 from here import FOUR, LOST, PYTHON, SCHEMA, Case, asks_the_engine, faults, machines, said, written_hosts
 from cxlplan import Host
-from cxlplan.fleet import Lines, folders_in, judge
+from cxlplan.fleet import File, folders_in, judge
 
 
 @asks_the_engine
@@ -27,6 +28,12 @@ class Fleet(Case):
 
     def lines(self, text):
         return [json.loads(line) for line in text.splitlines()]
+
+    @staticmethod
+    def kept(out):
+        """Of how many hosts a file has a verdict."""
+        with closing(File(out)) as file:
+            return len(file.done)
 
     def test_folders(self):
         self.assertEqual([os.path.relpath(it, self.hosts) for it in folders_in([self.hosts])],
@@ -52,10 +59,12 @@ class Fleet(Case):
             whole = file.read()
             file.truncate(len(whole) - 9)
         status, text, line = said("fleet", self.hosts, "--out", out)
-        self.assertEqual((status, text, line), (0, "", "cxldesk: 1 hosts: 1 sound, 0 broken, 0 not read; 5 were judged before\n"))
-        self.assertEqual(len(Lines.kept(out)), 6)
+        self.assertEqual((status, text, line), (8, "", "cxldesk: 6 hosts: 4 sound, 1 broken, 1 not read; 5 of them judged before\n"))
+        self.assertEqual(self.kept(out), 6)
         self.file("hosts/rack0/host0/image.bin", Host.from_files(*FOUR).registers)
-        self.assertEqual(said("fleet", self.hosts, "--out", out)[0], 0)
+        self.assertEqual(said("fleet", self.hosts, "--out", out),
+                         (8, "", "cxldesk: 6 hosts: 5 sound, 1 broken, 0 not read; 5 of them judged before\n"))
+        self.assertEqual(self.kept(out), 6)
 
     def test_database(self):
         """The same in SQLite, asked there; with as many processors as there are."""
@@ -69,7 +78,7 @@ class Fleet(Case):
             self.assertEqual(opened.execute("select endpoints, sum(size) from regions group by endpoints").fetchall(), [("d1 d2 d3 d4", 4 << 30)])
             self.assertEqual(opened.execute("select count(*) from decoders where committed").fetchone(), (30,))
         opened.close()
-        self.assertEqual(said("fleet", self.hosts, "--db", base)[2], "cxldesk: 0 hosts: 0 sound, 0 broken, 0 not read; 6 were judged before\n")
+        self.assertEqual(said("fleet", self.hosts, "--db", base)[2], "cxldesk: 6 hosts: 4 sound, 1 broken, 1 not read; 6 of them judged before\n")
         self.assertEqual(said("fleet", self.hosts, "--db", self.file("none", b"no database at all, but words"))[0], 1)
 
     def test_processors(self):
@@ -99,10 +108,11 @@ class Fleet(Case):
         line = ran.communicate(timeout=120)[1]
         self.assertIn((ran.returncode, line.decode().splitlines()[-1]), (
             (130, "cxldesk: interrupted"), (0, "cxldesk: 1500 hosts: 1500 sound, 0 broken, 0 not read")))
-        done = len(Lines.kept(out))
+        done = self.kept(out)
         status, _, line = said("fleet", self.path("many"), "--out", out)
         self.assertEqual(status, 0)
-        self.assertTrue(line.startswith(f"cxldesk: {1500 - done} hosts: {1500 - done} sound"), line)
+        before = f"; {done} of them judged before" if done else ""
+        self.assertEqual(line, f"cxldesk: 1500 hosts: 1500 sound, 0 broken, 0 not read{before}\n")
         with open(out, encoding="utf-8") as file:
             hosts = [json.loads(row)["host"] for row in file]
         self.assertEqual((len(hosts), len(set(hosts))), (1500, 1500))

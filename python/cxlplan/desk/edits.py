@@ -2,9 +2,11 @@
 
 from ..editing import image_of, image_text, table_of, table_text
 from ..errors import BadWords
-from ..host import Host, Table, read_file
+from ..files import write_new
+from ..host import Host, Table
+from ..incoming import MOST_TEXT, read_file
 from .output import Answer
-from .planned import add_text, write_file
+from .planned import add_text
 from .words import only_host
 
 
@@ -24,7 +26,7 @@ class ImageText:
             if host.image is None:
                 host = Host(host.table.data, host.topology.data, image_of(host, ""), host.name)
             return add_text(Answer({"host": host.name, "text": image_text(host)}), image_text(host))
-        made = image_of(host, read_file(options.text).decode(errors="replace"))
+        made = image_of(host, text_of(options.text))
         return kept(options, made, Answer({"host": host.name, "file": options.to}))
 
 
@@ -41,7 +43,7 @@ class TableText:
         if options.text is not None:
             if options.words:
                 raise BadWords(f"{options.words[0]}: one word too many; see cxldesk table --help", 1, "extra")
-            made = table_of(read_file(options.text).decode(errors="replace"))
+            made = table_of(text_of(options.text))
             return kept(options, made, Answer({"file": options.to}))
         if len(options.words) != 1:
             raise BadWords("wanted is CEDT, or --from TEXT --to FILE; see cxldesk table --help", 1, "usage")
@@ -54,8 +56,13 @@ def back(parser, what: str) -> None:
     parser.add_argument("--to", metavar="FILE", help="the file that is made")
 
 
+def text_of(file: str) -> str:
+    """An edited text; what is no text of a line is found there."""
+    return read_file(file, MOST_TEXT).decode(errors="replace")
+
+
 def kept(options, made: bytes, said: Answer) -> Answer:
     if options.to is None:
         raise BadWords("--from wants --to FILE, the file to make", 1, "usage")
-    write_file(options.to, made)
+    write_new(options.to, made)
     return said

@@ -1,15 +1,15 @@
 """`fleet`: thousands of captures judged, as JSON lines or in a SQLite file."""
 
 import os
-import sqlite3
 import sys
 
 from ..errors import BadFile, BadWords
-from ..fleet import Database, Lines, chunks_of, folders_in, judged
-from .output import complain
-from .words import number
+from ..fleet import CHUNK, File, Keeper, Lines, hosts_in, stamp_of
+from ..incoming import number
+from .output import complain, ended_output
 
 BAR = 40  # letters of the progress bar
+MOST_JOBS = 1024
 
 
 def arguments(parser) -> None:
@@ -21,49 +21,86 @@ def arguments(parser) -> None:
 
 def work(options) -> int:
     """Judges all hosts; gives 0 where all are sound, else 8."""
-    if options.db and options.out:
+    if options.db is not None and options.out is not None:
         raise BadWords("--db and --out do not go together; see cxldesk fleet --help", 1, "usage")
     for place in options.words:
         if not os.path.isdir(place):
             raise BadFile(f"{place}: {'is no folder' if os.path.lexists(place) else 'No such file or directory'}", 2, "no folder", place)
-    jobs = number(options.jobs) if options.jobs else len(os.sched_getaffinity(0)) if hasattr(os, "sched_getaffinity") else os.cpu_count()
+    jobs = jobs_of(options.jobs)
     keeper = keeper_of(options)
     try:
         return judge_into(keeper, options.words, jobs)
-    except BrokenPipeError:
-        os.dup2(os.open(os.devnull, os.O_WRONLY), sys.stdout.fileno())
-        return 1
+    except OSError as fault:
+        if not isinstance(keeper, Lines):
+            raise
+        return ended_output(fault)
     finally:
         keeper.close()
 
 
-def keeper_of(options):
+def jobs_of(word) -> int:
+    if word is None:
+        return len(os.sched_getaffinity(0)) if hasattr(os, "sched_getaffinity") else os.cpu_count() or 1
+    jobs = number(word)
+    if not 0 < jobs <= MOST_JOBS:
+        raise BadWords(f"--jobs takes 1 to {MOST_JOBS}; see cxldesk fleet --help", 1, "number", word)
+    return jobs
+
+
+def keeper_of(options) -> Keeper:
     """Where verdicts go."""
-    try:
-        return Database(options.db) if options.db else Lines(options.out, sys.stdout)
-    except (OSError, sqlite3.Error, ValueError, KeyError) as fault:
-        file = options.db or options.out
-        why = "is a folder" if os.path.isdir(file) else getattr(fault, "strerror", None) or fault
-        raise BadFile(f"{file}: {why}", 1, "cannot write", file) from None
+    if options.db is not None:
+        from ..database import Database
+        return Database(options.db)
+    return File(options.out) if options.out is not None else Lines(sys.stdout)
 
 
-def judge_into(keeper, places: list, jobs: int) -> int:
-    shares = list(chunks_of(folders_in(places), keeper.done))
-    passed, total = len(keeper.done), sum(map(len, shares))
+def judge_into(keeper: Keeper, places: list, jobs: int) -> int:
+    from ..workers import judged
+    kept = not isinstance(keeper, Lines)
+    found = list(hosts_in(map(os.path.abspath, places) if kept else places))  # in a file hosts have their whole names
+    wanted, gone = looked_over(keeper, found)
+    shares = [wanted[at:at + CHUNK] for at in range(0, len(wanted), CHUNK)]
     counts = {"sound": 0, "breach": 0, "fault": 0}
-    for verdicts in judged(shares, keeper.decoders, jobs):
-        keeper.add(verdicts)
-        for said in verdicts:
-            counts[said["verdict"]] += 1
-        progress(sum(counts.values()), total)
-    words = f"{total} hosts: {counts['sound']} sound, {counts['breach']} broken, {counts['fault']} not read"
-    complain(words + (f"; {passed} were judged before" if passed else ""))
+    for _, verdict in keeper.done.values():
+        counts[verdict] += 1
+    before, done = len(keeper.done), 0
+    for share in judged(shares, keeper.decoders, keeper.row, jobs):
+        keeper.add([row for _, row in share])
+        for verdict, _ in share:
+            counts[verdict] += 1
+        done += len(share)
+        progress(done, len(wanted))
+    complain(summary(counts, before, gone))
     return 8 if counts["breach"] or counts["fault"] else 0
+
+
+def looked_over(keeper: Keeper, found: list) -> tuple:
+    """The hosts that are to be judged, and how many are gone. Of those that a file has only these stay that are still as they were."""
+    wanted = [(folder, why) for folder, why in found if folder not in keeper.done or keeper.done[folder][0] != stamp_of(folder)]
+    met, stale, gone = {folder for folder, _ in found}, {folder for folder, _ in wanted if folder in keeper.done}, set()
+    for folder in keeper.done.keys() - met:
+        stamp = stamp_of(folder)
+        if not stamp:
+            gone.add(folder)
+        elif stamp != keeper.done[folder][0]:
+            stale.add(folder)
+            wanted.append((folder, ""))
+    keeper.drop(stale | gone)
+    for folder in stale | gone:
+        del keeper.done[folder]
+    return wanted, len(gone)
+
+
+def summary(counts: dict, before: int, gone: int) -> str:
+    words = f"{sum(counts.values())} hosts: {counts['sound']} sound, {counts['breach']} broken, {counts['fault']} not read"
+    words += f"; {before} of them judged before" if before else ""
+    return words + (f"; {gone} gone since" if gone else "")
 
 
 def progress(done: int, total: int) -> None:
     """A bar on standard error, where that is a terminal."""
-    if sys.stderr.isatty():
+    if sys.stderr is not None and sys.stderr.isatty():
         filled = BAR * done // max(total, 1)
         end = "\r" if done < total else "\n"
         print(f"[{'#' * filled}{'.' * (BAR - filled)}] {done} of {total} hosts", end=end, file=sys.stderr, flush=True)

@@ -1,85 +1,136 @@
 """The command line of cxldesk."""
 
+import signal
 import sys
+import threading
+from contextlib import contextmanager
+from importlib import import_module
 
 from ..errors import CxlError
-from . import checking, differ, edits, fleets, planned, reports, rooms, shell, showing, whereis
 from .output import Answer, as_json, complain, tell
 from .words import Parser
 
-# By the word of the command: where its words are said, and where it is carried out.
+# By the word of the command: the module where its words are said and where it is carried out, which is read where it is asked for.
 COMMANDS = {
-    "show": (showing, "windows, tree, decoders and regions, also of registers that are refused"),
-    "check": (checking, "whether the registers are sound; else which rule is broken where, what was found, what is wanted and why"),
-    "where": (whereis, "host addresses to device bytes and back, ranges of both, poison lists to host ranges"),
-    "room": (rooms, "what is free, and the largest regions that have a plan"),
-    "plan": (planned, "what a new region needs, or what stands in its way; what taking one down would write"),
-    "diff": (differ, "what is another in one capture than in another"),
-    "report": (reports, "one self-contained page on a host, for a bug report"),
-    "fleet": (fleets, "thousands of captures judged, as JSON lines or in a SQLite file"),
-    "shell": (shell, "a session at a terminal"),
-    "image": (edits.ImageText, "registers as text that can be edited, and back"),
-    "table": (edits.TableText, "a table as text that can be edited, and back"),
+    "show": ("showing", "windows, tree, decoders and regions, also of registers that are refused"),
+    "check": ("checking", "whether the registers are sound; else which rule is broken where, what was found, what is wanted and why"),
+    "where": ("whereis", "host addresses to device bytes and back, ranges of both, poison lists to host ranges"),
+    "room": ("rooms", "what is free, and the largest regions that have a plan"),
+    "plan": ("planned", "what a new region needs, or what stands in its way; what taking one down would write"),
+    "diff": ("differ", "what is another in one capture than in another"),
+    "report": ("reports", "one self-contained page on a host, for a bug report"),
+    "fleet": ("fleets", "thousands of captures judged, as JSON lines or in a SQLite file"),
+    "shell": ("shell", "a session at a terminal"),
+    "image": ("edits", "registers as text that can be edited, and back"),
+    "table": ("edits", "a table as text that can be edited, and back"),
 }
 
 HOST = """HOST is a folder that cxl-capture made, or three files: CEDT TOPO IMAGE, of which one may be - for standard input."""
 
 
-def parser_of() -> Parser:
+def module_of(command: str):
+    """Where a command's words are said, and where it is carried out."""
+    found = import_module(f".{COMMANDS[command][0]}", __package__)
+    return getattr(found, {"image": "ImageText", "table": "TableText"}.get(command, ""), found)
+
+
+def parser_of(command: str) -> Parser:
+    """The parser of the command line, in which one command has its words."""
     parser = Parser(prog="cxldesk", description="Every question about a machine's CXL memory, from one command.", epilog=HOST,
                     allow_abbrev=False)
     parser.add_argument("--version", action="store_true", help="the version of the package and of the proved calls")
     commands = parser.add_subparsers(dest="command", metavar="COMMAND")
-    for name, (module, about) in COMMANDS.items():
+    for name, (_, about) in COMMANDS.items():
         sub = commands.add_parser(name, help=about, description=f"{about[0].upper()}{about[1:]}.", epilog=HOST, allow_abbrev=False)
-        sub.add_argument("--json", action="store_true", help="JSON, by python/cxlplan/schema.json")
-        sub.add_argument("--aligned", action="store_true", help="aligned columns, also where standard output is no terminal")
-        module.arguments(sub)
+        if name == command:
+            sub.add_argument("--json", action="store_true", help="JSON, by python/cxlplan/schema.json")
+            sub.add_argument("--aligned", action="store_true", help="aligned columns, also where standard output is no terminal")
+            module_of(name).arguments(sub)
     return parser
+
+
+class Terminated(KeyboardInterrupt):
+    """Another process asked this one to end."""
+
+
+@contextmanager
+def ended_in_order():
+    """Has a TERM end the work in order, as the keyboard does, where nobody else sees to that."""
+    if threading.current_thread() is not threading.main_thread() or signal.getsignal(signal.SIGTERM) != signal.SIG_DFL:
+        yield
+        return
+
+    def end(*_) -> None:
+        signal.signal(signal.SIGTERM, signal.SIG_IGN)
+        raise Terminated
+
+    signal.signal(signal.SIGTERM, end)
+    try:
+        yield
+    finally:
+        signal.signal(signal.SIGTERM, signal.SIG_DFL)
 
 
 def main(words=None) -> int:
     """Carries out a command line, and gives the exit status."""
     words = sys.argv[1:] if words is None else list(words)
-    wants_json = "--json" in words
     command = next((word for word in words if not word.startswith("-")), "")
+    for output in (sys.stdout, sys.stderr):
+        if hasattr(output, "reconfigure"):
+            output.reconfigure(errors="backslashreplace")  # a name may have signs that a terminal's encoding has not
     try:
-        return carried_out(words)
+        with ended_in_order():
+            return carried_out(words)
     except CxlError as fault:
-        if wants_json:
-            tell(as_json(command, {"error": fault.as_dict()}))
-        else:
-            complain(fault.text.split("\n")[0] if fault.status != 8 else fault.text.replace("\n", "; "))
-        return fault.status if 0 < fault.status < 126 else 1
+        return told(fault, command, "--json" in words)
+    except Terminated:
+        complain("terminated")
+        return 143
     except KeyboardInterrupt:
         complain("interrupted")
         return 130
+    except (MemoryError, RecursionError):
+        complain("memory ran out")
+        return 9
+
+
+def told(fault: CxlError, command: str, wants_json: bool) -> int:
+    """Says what stood in the way, and gives the exit status."""
+    status = fault.status if 0 < fault.status < 126 else 1
+    if wants_json:
+        return status if tell(as_json(command, {"error": fault.as_dict()})) else 1
+    complain(fault.text.split("\n")[0] if fault.status != 8 else fault.text.replace("\n", "; "))
+    return status
 
 
 def carried_out(words: list) -> int:
-    parser = parser_of()
+    command = next((word for word in words if word in COMMANDS), "")
+    parser = parser_of(command)
     if {"-h", "--help"} & {*words}:
-        return 0 if tell(help_of(parser, words)) else 1
+        return 0 if tell(help_of(parser, command)) else 1
     options = parser.read(words)
     if options.version:
         return 0 if tell(version()) else 1
     if not options.command:
         return 0 if tell(parser.format_help()) else 1
-    module = COMMANDS[options.command][0]
+    module = module_of(options.command)
     if hasattr(module, "work"):
         return module.work(options)
     said: Answer = module.answer(options)
-    text = as_json(options.command, said.facts) if options.json else said.text(options.aligned or sys.stdout.isatty())
+    text = as_json(options.command, said.facts) if options.json else said.text(options.aligned or is_terminal())
     return said.status if tell(text) else 1
 
 
-def help_of(parser: Parser, words: list) -> str:
+def is_terminal() -> bool:
+    return sys.stdout is not None and sys.stdout.isatty()
+
+
+def help_of(parser: Parser, command: str) -> str:
     """The help of a command, or of all."""
-    name = next((word for word in words if word in COMMANDS), None)
-    if name is None:
+    if not command:
         return parser.format_help()
     actions = [it for it in parser._actions if hasattr(it, "choices") and it.choices]  # pylint: disable=protected-access
-    return actions[0].choices[name].format_help()
+    return actions[0].choices[command].format_help()
 
 
 def version() -> str:

@@ -1,9 +1,10 @@
 """What a subcommand prints: JSON, aligned text for people at a terminal, or plain lines of words, as the program's own are."""
 
-import json
 import os
 import sys
 from dataclasses import dataclass, field
+
+from ..incoming import printable
 
 SCHEMA = "cxldesk/1"  # of python/cxlplan/schema.json; the number rises where a field changes its meaning or goes
 
@@ -99,21 +100,39 @@ def is_number(text: str) -> bool:
 def tell(text: str) -> bool:
     """Prints a text, and gives whether it could be; quietly, where the reader of a pipe is gone."""
     try:
+        if sys.stdout is None:
+            raise OSError(9, "is closed")
         sys.stdout.write(text)
         sys.stdout.flush()
     except OSError as fault:
-        os.dup2(os.open(os.devnull, os.O_WRONLY), sys.stdout.fileno())  # else the rest is tried once more at the end
-        if not isinstance(fault, BrokenPipeError):
-            complain(f"standard output: {fault.strerror}")
-            raise SystemExit(6) from None
+        if ended_output(fault) == NO_OUTPUT:
+            raise SystemExit(NO_OUTPUT) from None
         return False
     return True
 
 
+NO_OUTPUT = 6  # the exit status where standard output takes nothing
+
+
+def ended_output(fault: OSError) -> int:
+    """Ends the output after a fault, and gives the exit status: quietly where the reader of a pipe is gone, else with a line."""
+    if sys.stdout is not None:
+        os.dup2(os.open(os.devnull, os.O_WRONLY), sys.stdout.fileno())  # else the rest is tried once more at the end
+    if isinstance(fault, BrokenPipeError):
+        return 1
+    complain(f"standard output: {fault.strerror}")
+    return NO_OUTPUT
+
+
 def complain(text: str) -> None:
-    """A line on standard error."""
-    print("".join(sign if sign.isprintable() else "?" for sign in f"cxldesk: {text}"), file=sys.stderr)
+    """A line on standard error, where there is one."""
+    try:
+        if sys.stderr is not None:
+            print(printable(f"cxldesk: {text}"), file=sys.stderr, flush=True)
+    except OSError:
+        pass  # there is nobody left to tell
 
 
 def as_json(command: str, facts: dict) -> str:
+    import json
     return json.dumps({"schema": SCHEMA, "command": command, **facts}, indent=1) + "\n"

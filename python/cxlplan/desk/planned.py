@@ -1,10 +1,8 @@
 """`plan`: what a new region needs on the registers as they are, or what stands in its way; and what taking one down would write."""
 
-import os
-
-from ..errors import BadFile, BadWords, Refusal
+from ..errors import BadWords, Refusal
 from ..explain import reason_words, refusal_words
-from ..files import write_whole
+from ..files import write_new
 from ..host import Host
 from ..planning import c_text, csv_text, image_with, linux_text, name_of, plan, release, words_text
 from .output import Answer
@@ -40,7 +38,7 @@ def answer(options) -> Answer:
 
 def made(host: Host, line: str, options) -> Answer:
     if options.image is not None:
-        write_file(options.image, image_with(host, line))
+        write_new(options.image, image_with(host, line))
         return Answer({"host": host.name, "image": options.image})
     wants_writes = options.register_writes or options.c or options.csv
     found = plan(host, line, wants_writes)
@@ -105,13 +103,3 @@ def refused_answer(host: Host, refused: Refusal) -> Answer:
     for reason in reasons:
         said.line(f"window {reason['window']}: {reason['means']}. To do: {reason['advice']}.")
     return said
-
-
-def write_file(file: str, data: bytes) -> None:
-    """Writes a file whole or not at all, and never over another: beside its place first."""
-    if os.path.lexists(file):
-        raise BadFile(f"{file}: " + ("is a folder" if os.path.isdir(file) else "there already"), 1, "there already", file)
-    beside = os.path.dirname(os.path.abspath(file))
-    if not os.path.isdir(beside):
-        raise BadFile(f"{file}: there is no folder {beside}", 1, "no folder", file)
-    write_whole(file, data)

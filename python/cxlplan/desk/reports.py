@@ -3,9 +3,10 @@
 import os
 
 from ..errors import BadWords
+from ..files import write_new
+from ..incoming import text_within
 from ..report import page_of
 from .output import Answer
-from .planned import write_file
 from .words import take_host
 
 
@@ -19,14 +20,10 @@ def answer(options) -> Answer:
     if len(rest) != 1:
         raise BadWords("wanted are HOST and OUT.html, the page to make; see cxldesk report --help", 1, "usage")
     page = page_of(host, inferred_of(host.name))
-    write_file(rest[0], page.encode())
+    write_new(rest[0], page.encode())
     return Answer({"host": host.name, "page": rest[0], "bytes": len(page.encode())})
 
 
 def inferred_of(folder: str) -> str:
     """What the capture of a folder says of itself."""
-    try:
-        with open(os.path.join(folder, "report.txt"), encoding="utf-8", errors="replace") as file:
-            return file.read()
-    except OSError:
-        return ""
+    return text_within(folder, "report.txt") or "" if os.path.isdir(folder) else ""

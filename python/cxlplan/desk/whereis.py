@@ -3,9 +3,10 @@
 import struct
 
 from ..errors import BadWords, Refusal
-from ..host import Host, read_file
+from ..host import Host
+from ..incoming import MOST_TEXT, amount, number, read_file
 from .output import Answer, Hex
-from .words import number, take_host
+from .words import take_host
 
 HEAD, RECORD, MOST_RECORDS = 32, 16, 100  # of a poison list; the most in one line
 MOST_RANGE = 1 << 16  # host bytes of one `range`
@@ -24,10 +25,10 @@ def answer(options) -> Answer:
     if options.poison is not None:
         if len(rest) != 1:
             raise BadWords("--poison wants HOST and ENDPOINT; see cxldesk where --help", 1, "usage")
-        return poison_answer(host, rest[0], read_file(options.poison))
+        return poison_answer(host, rest[0], read_file(options.poison, MOST_TEXT))
     if len(rest) not in (1, 2):
         raise BadWords("wanted are HOST HPA, or HOST ENDPOINT DPA; see cxldesk where --help", 1, "usage")
-    length = None if options.length is None else number(options.length)
+    length = None if options.length is None else amount(options.length)
     if len(rest) == 1:
         return of_address(host, number(rest[0]), length)
     return of_device(host, rest[0], number(rest[1]), length)

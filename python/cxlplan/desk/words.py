@@ -31,14 +31,6 @@ class Parser(argparse.ArgumentParser):
         return said
 
 
-def number(word: str) -> int:
-    """A decimal number, or a hexadecimal one after 0x, as the program reads them."""
-    if re.fullmatch("0x[0-9A-Fa-f]+|[0-9]+", word):
-        return int(word, 16) if word[:2] == "0x" else int(word)
-    hint = "; in hexadecimal 0x is missing" if re.fullmatch("[0-9A-Fa-f]+", word) else "; sizes are bytes, as 0x40000000 for 1 GiB"
-    raise BadWords(f"{word[:60]!r} is no number{hint}", 1, "number", word)
-
-
 def take_host(words: list, options) -> tuple:
     """The host that the first words name, a folder or its files, and the words behind them."""
     is_reset = getattr(options, "reset", False)

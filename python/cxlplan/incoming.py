@@ -1,0 +1,137 @@
+"""How words and files come in: each number, name and file that the package takes from a user or from a host's folder goes through here.
+
+What a user names may be a link or a pipe, and is read to a limit. What stands in a host's folder was made by others: only plain files are
+opened there, and no link leads out of the folder."""
+
+import os
+import re
+import stat
+import sys
+from typing import Optional
+
+from .errors import BadFile, BadWords
+
+MOST_BYTES = 1 << 20  # of a table, a topology or an image
+MOST_TEXT = 1 << 26  # of a text that is edited, or a file of poison lists
+FILES = ("table.cedt", "topo.toml", "image.bin")  # of a folder that cxl-capture made
+LARGEST = (1 << 64) - 1
+UNITS = {"K": 10, "M": 20, "G": 30, "T": 40}
+NUMBER = re.compile("0x[0-9A-Fa-f]+|[0-9]+")
+AMOUNT = re.compile("([0-9]+)([KMGTkmgt])(?:iB)?")
+KINDS = ((stat.S_ISDIR, "is a folder"), (stat.S_ISFIFO, "is a pipe"), (stat.S_ISSOCK, "is a socket"), (stat.S_ISLNK, "is a link"),
+         (lambda mode: stat.S_ISCHR(mode) or stat.S_ISBLK(mode), "is a device"))
+
+
+# ---- Words.
+
+def number(word: str, most: int = LARGEST) -> int:
+    """A decimal number, or a hexadecimal one after 0x, as the program reads them."""
+    if not NUMBER.fullmatch(word):
+        hint = "; in hexadecimal 0x is missing" if re.fullmatch("[0-9A-Fa-f]+", word) else "; sizes are bytes, as 0x40000000 for 1 GiB"
+        raise BadWords(f"{quoted(word)} is no number{hint}", 1, "number", word)
+    digits = word[2:] if word[:2] == "0x" else word
+    value = int(digits, 16 if word[:2] == "0x" else 10) if len(digits.lstrip("0")) <= 20 else most + 1
+    if value > most:
+        raise BadWords(f"{quoted(word)} is above {most:#x}", 1, "number", word)
+    return value
+
+
+def amount(word: str, most: int = LARGEST) -> int:
+    """A number of bytes: as `number`, or a decimal number with K, M, G or T behind it, as 512M."""
+    found = AMOUNT.fullmatch(word)
+    if not found:
+        return number(word, most)
+    value = number(found[1], most) << UNITS[found[2].upper()]
+    if value > most:
+        raise BadWords(f"{quoted(word)} is above {most:#x}", 1, "number", word)
+    return value
+
+
+def quoted(word: str, most: int = 60) -> str:
+    """A word as it was typed, in a message."""
+    return repr(word if len(word) <= most else word[:most] + "..")
+
+
+def printable(text: str) -> str:
+    """A name on one line, without what would move a terminal's cursor or is no character."""
+    return "".join(sign if sign.isprintable() else "?" for sign in text)
+
+
+# ---- Files.
+
+def why_not(fault: Exception) -> str:
+    """What a failed call says, in a few words."""
+    if isinstance(fault, IsADirectoryError):
+        return "is a folder"
+    return getattr(fault, "strerror", None) or str(fault)
+
+
+def kind_of(mode: int) -> str:
+    """What stands in the place of a plain file."""
+    return next((words for is_such, words in KINDS if is_such(mode)), "is no file")
+
+
+def up_to(end: int, name: str, most: int) -> bytes:
+    """What an open file holds, which may be so many bytes at the most."""
+    size = os.fstat(end).st_size
+    parts, left = [], most + 1
+    while left > 0:
+        part = os.read(end, min(left, size + 1 if 0 < size < most else 1 << 16))
+        if not part:
+            break
+        parts.append(part)
+        left -= len(part)
+    if left <= 0:
+        raise BadFile(f"{name}: more than {most} bytes", 12, "too large", name)
+    return b"".join(parts)
+
+
+def read_file(name: str, most: int = MOST_BYTES) -> bytes:
+    """The bytes of a file that a user names, or those of standard input for `-`."""
+    try:
+        if name == "-":
+            if sys.stdin is None:
+                raise BadFile("-: standard input is closed", 2, "cannot read", name)
+            return up_to(sys.stdin.fileno(), name, most)
+        end = os.open(name, os.O_RDONLY | os.O_CLOEXEC | os.O_NOCTTY)
+        try:
+            return up_to(end, name, most)
+        finally:
+            os.close(end)
+    except (OSError, ValueError) as fault:
+        raise BadFile(f"{name}: {why_not(fault)}", 2, "cannot read", name) from None
+
+
+def read_within(folder: str, name: str, most: int = MOST_BYTES) -> bytes:
+    """The bytes of a file of a host's folder: of a plain one, or of a link to one that is in the folder, too. Nothing is waited for."""
+    path = os.path.join(folder, name)
+    try:
+        mode = os.lstat(path).st_mode
+        at = within(folder, path) if stat.S_ISLNK(mode) else path
+        if at != path:
+            mode = os.lstat(at).st_mode
+        if not stat.S_ISREG(mode):
+            raise BadFile(f"{path}: {kind_of(mode)}", 2, "cannot read", path)
+        end = os.open(at, os.O_RDONLY | os.O_CLOEXEC | os.O_NOCTTY | os.O_NONBLOCK | os.O_NOFOLLOW)
+        try:
+            return up_to(end, path, most)
+        finally:
+            os.close(end)
+    except (OSError, ValueError) as fault:
+        raise BadFile(f"{path}: {why_not(fault)}", 2, "cannot read", path) from None
+
+
+def within(folder: str, path: str) -> str:
+    """Where a link of a folder leads, which has to be in the folder."""
+    top, at = os.path.realpath(folder), os.path.realpath(path)
+    if os.path.commonpath((top, at)) != top:
+        raise BadFile(f"{path}: is a link out of its folder", 2, "cannot read", path)
+    return at
+
+
+def text_within(folder: str, name: str) -> Optional[str]:
+    """A text of a host's folder, or None where there is none that can be read."""
+    try:
+        return read_within(folder, name).decode("utf-8", "replace")
+    except BadFile:
+        return None
