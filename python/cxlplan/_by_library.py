@@ -45,7 +45,7 @@ class LibraryEngine:
         return self.library.gen(count)
 
     def version(self) -> str:
-        return self.library.version()[1].decode().strip()
+        return self.library.version()[1].decode("ascii", "backslashreplace").strip()
 
     # ---- Read-only calls.
 
@@ -57,6 +57,10 @@ class LibraryEngine:
 
     def decoders(self, cedt: bytes, topo: bytes, image: bytes, only_used: bool = False) -> list:
         return texts.decoders(told(self.library.decoders(topo, image)), only_used)
+
+    def controls(self, cedt: bytes, topo: bytes, image: bytes) -> dict:
+        """The global control of each node."""
+        return texts.controls(told(self.library.decoders(topo, image)))
 
     def breaches(self, cedt: bytes, topo: bytes, image: bytes) -> list:
         status, data = self.library.breaches(cedt, topo, image)

@@ -178,10 +178,12 @@ class ShownRow(Fact):
 
 @dataclass(frozen=True)
 class Write(Fact):
-    """A register write of 32 bits. `offset` is that in the node's HDM decoder capability structure."""
+    """A register write of 32 bits. `offset` is that in the node's HDM decoder capability structure. Of a commit `reads` is what the word
+    reads when it is done."""
     node: str
     offset: int
     value: int
+    reads: Optional[int] = None
 
 
 @dataclass(frozen=True)
@@ -279,12 +281,13 @@ class Reason(Fact):
 
 @dataclass(frozen=True)
 class Planned(Fact):
-    """A region that could be made on the registers as they are: its decoders as they would stand, the register writes that make it, and
-    those that take it down again."""
+    """A region that could be made on the registers as they are: its decoders as they would stand, the register writes that make it,
+    those that take it down again, and those by which endpoints of it that do not decode yet are let decode, before all others."""
     region: Region
     decoders: tuple
     writes: tuple
     undo: tuple
+    enables: tuple = ()
 
 
 @dataclass(frozen=True)

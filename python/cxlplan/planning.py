@@ -3,11 +3,15 @@
 A plan is a create in a session that is thrown away: so the answer, its refusals and its writes are the session's."""
 
 import re
-from dataclasses import dataclass
+from dataclasses import dataclass, replace
 
+from ._engine import engine
 from .errors import BadWords, NoEngine
-from .facts import Planned, Released, WORD_NAMES
+from .facts import Planned, Released, WORD_NAMES, Write
 
+GLOBAL_CONTROL, ENABLE = 0x4, 1 << 1  # where an endpoint is let decode
+COMMIT = 1 << 9  # of a control word
+MOST_WAIT = "10 ms"  # in which a commit is done or has failed, by the standard
 GRAIN = 256 << 20  # bytes: Linux makes a root decoder of a window whose base and size are multiples of it
 
 
@@ -32,7 +36,24 @@ def plan(host, line: str, with_writes: bool = True) -> Planned:
         decoders = decoders_of(host, session, rows)
         session.ask(f"destroy {region.name}")
         undo = tuple(session.writes())
-    return Planned(region, decoders, writes, undo)
+    return Planned(region, decoders, with_reads(writes, rows), undo, enables(host, region) if with_writes else ())
+
+
+def enables(host, region) -> tuple:
+    """The writes that let those endpoints of a region decode that do not yet; after reset none does."""
+    held = engine().controls(host.table.data, host.topology.data, host.registers) if host.image else {}
+    names = dict.fromkeys(slot.endpoint for slot in region.slots)
+    return tuple(Write(name, GLOBAL_CONTROL, held.get(name, 0) | ENABLE) for name in names if not held.get(name, 0) & ENABLE)
+
+
+def with_reads(writes: tuple, rows: list) -> tuple:
+    """Writes, of which those that commit have what is read when they are done: what a session shows of the decoder."""
+    shown = {(row.node, row.decoder): row.words[4] for row in rows}
+    return tuple(replace(it, reads=shown[it.node, decoder_at(it.offset)[0]]) if commits(it) else it for it in writes)
+
+
+def commits(write: Write) -> bool:
+    return write.offset >= 0x10 and decoder_at(write.offset)[1] == 4 and bool(write.value & COMMIT)
 
 
 def decoders_of(host, session, rows: list) -> tuple:
@@ -55,8 +76,8 @@ def image_with(host, line: str) -> bytes:
 def release(host, name: str, with_writes: bool = True) -> Released:
     """What taking a region down would write, and what takes all but the last of these writes back; what refuses it is raised."""
     with opened(host, with_writes) as session:
-        region, _ = session.show(name)
-        undo = taken_back(session, name)
+        region, rows = session.show(name)
+        undo = with_reads(taken_back(session, name), rows)
         session.ask(f"destroy {name}")
         return Released(region, tuple(session.writes()), undo)
 
@@ -146,27 +167,35 @@ def words_text(host, heading: str, writes) -> str:
         if last != (write.node, number):
             last = (write.node, number)
             at = f"UID {node.uid}" if node.kind == "bridge" else f"below port {node.port} of {node.parent}"
-            text += f"\n{node.kind} {node.name}, {at}, decoder {number}\n"
+            text += f"\n{node.kind} {node.name}, {at}" + (f", decoder {number}\n" if number >= 0 else "\n")
         text += f"  {write.offset:#06x}  {write.value:#010x}  {word_name(node.kind, write.offset)}{meaning(write)}\n"
     return text
 
 
 def meaning(write) -> str:
     """What a write of a control word does."""
-    if decoder_at(write.offset)[1] != 4:
-        return ""
-    return ", commit" if write.value >> 9 & 1 else ""
+    if write.offset == GLOBAL_CONTROL:
+        return ": bit 1 lets it decode, and the others stay"
+    return f", commit; reads {write.reads:#010x} when done" if commits(write) else ""
 
 
 def csv_text(writes) -> str:
-    return "node,offset,value\n" + "".join(f"{it.node},{it.offset:#06x},{it.value:#010x}\n" for it in writes)
+    """Writes as rows; the last field is what a commit reads when it is done, and else empty."""
+    return "node,offset,value,reads\n" + "".join(
+        f"{it.node},{it.offset:#06x},{it.value:#010x},{'' if it.reads is None else f'{it.reads:#010x}'}\n" for it in writes)
 
 
-def c_text(name: str, writes, undo) -> str:
-    """Both lists of writes as constants of C."""
-    text = ("#include <stdint.h>\n\n/* Offsets are those in a node's HDM decoder capability structure. */\n"
-            "struct cxl_write { const char *node; uint16_t offset; uint32_t value; };\n")
-    for what, items in ((f"{name}_create", writes), (f"{name}_destroy", undo)):
-        text += f"\nstatic const struct cxl_write {what}[{len(items)}] = {{\n"
-        text += "".join(f'\t{{ "{it.node}", {it.offset:#06x}, {it.value:#010x} }},\n' for it in items) + "};\n"
+def c_text(name: str, *lists: tuple) -> str:
+    """Lists of writes as constants of C, each with what it is for."""
+    text = ("#include <stdint.h>\n\n/* Offsets are those in a node's HDM decoder capability structure. Where reads is not 0, go on when the word\n"
+            f"   reads so: within {MOST_WAIT}, or its bit 11 says that the commit failed. */\n"
+            "struct cxl_write { const char *node; uint16_t offset; uint32_t value; uint32_t reads; };\n")
+    for what, items in lists:
+        text += f"\nstatic const struct cxl_write {c_name(name)}_{what}[{len(items)}] = {{\n"
+        text += "".join(f'\t{{ "{it.node}", {it.offset:#06x}, {it.value:#010x}, {it.reads or 0:#010x} }},\n' for it in items) + "};\n"
     return text
+
+
+def c_name(name: str) -> str:
+    """A region's name as the begin of one of C, which begins with no digit, and with no underscore, since those are the compiler's."""
+    return name if name[:1].isalpha() else f"region_{name}"

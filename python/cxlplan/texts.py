@@ -117,6 +117,11 @@ def decoders(text: str, only_used: bool = False) -> list:
             if line.startswith("decoder ") and (not only_used or any(word in line for word in USED))]
 
 
+def controls(text: str) -> dict:
+    """Of the lines `block N NODE cap X control X` the global control of each node."""
+    return {words[2]: number(words[6]) for words in (line.split(" ") for line in lines_of(text)) if words[0] == "block"}
+
+
 def decoder(line: str) -> Decoder:
     front, _, words = line.rpartition(" words ")
     parts = front.split(" ")

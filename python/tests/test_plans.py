@@ -2,12 +2,15 @@
 
 import contextlib
 import io
+import json
 import re
+import struct
 import unittest
 
 from here import BENCH, FOUR, Case, asks_the_engine, machines, peer, said, worked_hosts
 from cxlplan import Host, Refusal, regions, texts
 from cxlplan._engine import engine
+from cxlplan.editing import reset_image
 from cxlplan.planning import image_with
 from cxlplan.room import table_with
 from pipe_session import PipeSession
@@ -114,13 +117,13 @@ class Writes(Beside):
         """The three forms of the writes."""
         words = ["plan", "--reset", *FOUR[:2], "r0 pmem 0x20000000 d1 d2"]
         _, text, _ = said(*words, "--words")
-        self.assertIn("r0: 32 writes of 32 bits make it.", text)
+        self.assertIn("r0: 34 writes of 32 bits make it.", text)
         self.assertIn("endpoint d2, below port 0 of hb32, decoder 0\n  0x0010  0x10000000  base low\n", text)
         _, rows, _ = said(*words, "--csv")
-        self.assertEqual(rows.count("\n"), 33)
+        self.assertEqual(rows.count("\n"), 35)
         _, code, _ = said(*words, "--c")
-        self.assertEqual([row.split(",")[0] for row in rows.splitlines()[1:]], re.findall('"(.*)"', code)[:32])
-        self.assertIn("static const struct cxl_write r0_create[32] = {", code)
+        self.assertEqual([row.split(",")[0] for row in rows.splitlines()[1:]], re.findall('"(.*)"', code)[:34])
+        self.assertIn("static const struct cxl_write r0_create[34] = {", code)
         self.assertIn("static const struct cxl_write r0_destroy[4] = {", code)
 
     def test_release(self):
@@ -131,6 +134,123 @@ class Writes(Beside):
         self.assertTrue(all(int(row.split(",")[2], 16) & 0x200 == 0 for row in text.splitlines()[1:]))
         _, text, _ = said("plan", folder, "destroy auto0", "--words")
         self.assertIn("auto0: 6 writes take it down.", text)
+
+
+class Registers:
+    """A machine's registers as after reset, which keep what is written, and commit what is asked of them."""
+
+    def __init__(self, host):
+        image = bytearray(reset_image(host))
+        self.nodes, self.at, at = {node.name: node for node in host.nodes}, {}, 12
+        for node in host.nodes:
+            self.at[node.name] = at
+            struct.pack_into("<I", image, at + 4, 0)  # nothing decodes yet
+            at += 16 + 32 * node.decoders
+        self.host, self.image = host, image
+
+    def write(self, node, offset, value, reads):
+        if offset >= 0x10 and offset % 0x20 == 0:
+            value = value | 1 << 10 if value >> 9 & 1 else value
+            assert reads in (value, None) if value >> 9 & 1 else not reads, (node, hex(offset), hex(value), reads)
+        struct.pack_into("<I", self.image, self.at[node] + offset, value)
+
+    def judged(self):
+        return Host(self.host.table.data, self.host.topology.data, bytes(self.image))
+
+
+def in_words(text, name):
+    """The lists of a text of `--words`: node, offset, value and what is read."""
+    reads = {(row.split()[0], row.split()[1]): int(row.split("reads ")[1].split()[0], 16) for row in text.splitlines() if "reads 0x" in row}
+    return [[(node, offset, value, reads.get((f"{offset:#06x}", f"{value:#010x}"))) for node, offset, value in part] for part in written(text, name)]
+
+
+def in_csv(text):
+    return [(node, int(offset, 16), int(value, 16), int(reads, 16) if reads else None)
+            for node, offset, value, reads in (row.split(",") for row in text.splitlines()[1:])]
+
+
+def in_c(text):
+    """The lists of a text of `--c`, by their names."""
+    found = {}
+    for row in text.splitlines():
+        if row.startswith("static const struct cxl_write "):
+            rows = found[row.split()[4].split("[")[0]] = []
+        elif row.startswith("\t{"):
+            node, *numbers = row.strip("\t{ },").split(", ")
+            rows.append((node.strip('"'), *(int(number, 16) for number in numbers)))
+    return found
+
+
+@asks_the_engine
+class Applied(Beside):
+    """Each form's writes, put into registers as they are after reset, make the region that was planned, and take it down."""
+
+    def test_each_form(self):
+        count = 0
+        for host in self.hosts():
+            folder, idle = self.folder(host.name.replace("/", "_"), host), Host(host.table.data, host.topology.data)
+            for line in takes(idle):
+                with self.subTest(host.name, line=line):
+                    words, rows, code = (said("plan", "--reset", folder, line, form)[1] for form in ("--words", "--csv", "--c"))
+                    make, end = in_words(words, "r0")
+                    lists = in_c(code)
+                    self.assertEqual(list(lists), ["r0_create", "r0_destroy"])
+                    for form in (make, in_csv(rows), lists["r0_create"]):
+                        self.applied(idle, line, form, end)
+                    for node, offset, value, reads in lists["r0_destroy"]:
+                        self.assertIn((node, offset, value, reads or None), end)
+                    count += 1
+        self.assertGreater(count, 60)
+
+    def applied(self, idle, line, make, end):
+        registers = Registers(idle)
+        for row in make:
+            registers.write(*row)
+        found, wanted = registers.judged().check(), idle.plan(line).region
+        self.assertEqual([(it.base, it.size, it.slots, it.kind) for it in found], [(wanted.base, wanted.size, wanted.slots, wanted.kind)])
+        for row in end:
+            registers.write(*row)
+        self.assertEqual(registers.judged().check(), [])
+
+    def test_endpoints_decode(self):
+        """Without the writes that let endpoints decode nothing is sound; endpoints that decode already are not written."""
+        host = Host.from_files(*FOUR[:2])
+        registers = Registers(host)
+        for row in in_csv(said("plan", "--reset", *FOUR[:2], "r0 pmem 1G ways=4", "--csv")[1]):
+            if row[1] != 4:
+                registers.write(*row)
+        self.assertEqual(registers.judged().breach.rule, "K2")
+        self.assertEqual([it[1] for it in in_csv(said("plan", "--reset", *FOUR[:2], "r0 pmem 1G ways=4", "--csv")[1])[:5]], [4] * 4 + [0x10])
+        folder = self.captured("x2-hb")
+        taken = [line for line in takes(Host.from_folder(folder))]
+        for line in taken:
+            self.assertNotIn("global control", said("plan", folder, line, "--words")[1])
+
+    def test_release(self):
+        """A release's lists: its writes, and those that take all but the last back."""
+        folder = self.captured("x4-pass-switch")
+        host, code = Host.from_folder(folder), in_c(said("plan", folder, "destroy auto0", "--c")[1])
+        self.assertEqual(list(code), ["auto0_destroy", "auto0_undo"])
+        registers = Registers(host)
+        registers.image[:] = host.registers
+        for row in code["auto0_destroy"][:-1] + code["auto0_undo"]:
+            registers.write(*row)
+        self.assertEqual(bytes(registers.image), host.registers)
+        for row in code["auto0_destroy"]:
+            registers.write(*row)
+        self.assertEqual(registers.judged().check(), [])
+
+    def test_json(self):
+        """Lists of writes stand there where they were asked for."""
+        words = ["plan", "--reset", *FOUR[:2], "r0 pmem 1G ways=4", "--json"]
+        self.assertEqual(sorted(json.loads(said(*words)[1])["plan"]), ["decoders", "region"])
+        found = json.loads(said(*words, "--words")[1])["plan"]
+        self.assertEqual((len(found["enables"]), len(found["undo"]), sum(it["reads"] is not None for it in found["writes"])), (4, 6, 6))
+
+    def test_names(self):
+        """Constants of C have names of C."""
+        for name, constant in (("0x", "region_0x_create"), ("_a", "region__a_create"), ("int", "int_create")):
+            self.assertEqual(list(in_c(said("plan", "--reset", *FOUR[:2], f"{name} pmem 1G ways=4", "--c")[1]))[0], constant)
 
 
 @asks_the_engine

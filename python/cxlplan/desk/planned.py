@@ -3,10 +3,13 @@
 from ..errors import BadWords, Refusal
 from ..explain import reason_words, refusal_words
 from ..files import write_new
+from ..facts import Planned, Released
 from ..host import Host
-from ..planning import c_text, csv_text, image_with, linux_text, name_of, plan, release, words_text
+from ..incoming import in_bytes
+from ..planning import MOST_WAIT, c_text, csv_text, image_with, linux_text, name_of, plan, release, words_text
 from .output import Answer
 from .showing import decoder_row, region_rows
+from .slips import of_plan
 from .words import take_host
 
 
@@ -29,11 +32,11 @@ def answer(options) -> Answer:
         raise BadWords("no LINE: create NAME KIND SIZE EP.., or destroy NAME; see cxldesk plan --help", 1, "missing")
     if words[0] == "destroy":
         return released(host, words, options)
-    line = " ".join(words if words[0] == "create" else ["create", *words])
+    words = words if words[0] == "create" else ["create", *words]
     try:
-        return made(host, line, options)
+        return made(host, in_bytes(" ".join(words)), options)
     except Refusal as refused:
-        return refused_answer(host, refused)
+        return refused_answer(host, words, refused)
 
 
 def made(host: Host, line: str, options) -> Answer:
@@ -42,13 +45,13 @@ def made(host: Host, line: str, options) -> Answer:
         return Answer({"host": host.name, "image": options.image})
     wants_writes = options.register_writes or options.c or options.csv
     found = plan(host, line, wants_writes)
-    said = Answer({"host": host.name, "plan": found.as_dict()})
+    said = Answer({"host": host.name, "plan": facts_of(found, wants_writes)})
     if options.linux:
         text = linux_text(host, found, line)
         said.facts["linux"] = text.splitlines()[-1]
         return add_text(said, text)
     if wants_writes:
-        return add_text(said, writes_text(host, found.region.name, found.writes, found.undo, options))
+        return add_text(said, making_text(host, found, options))
     region_rows(said, [found.region])
     if not found.decoders:
         return said.line("No library tells its decoders: run ./prove --library in the repository, or ./install.")
@@ -62,27 +65,41 @@ def released(host: Host, words: list, options) -> Answer:
     try:
         found = release(host, name_of(" ".join(words)), wants_writes)
     except Refusal as refused:
-        return refused_answer(host, refused)
-    said = Answer({"host": host.name, "release": found.as_dict()})
+        return refused_answer(host, words, refused)
+    said = Answer({"host": host.name, "release": facts_of(found, wants_writes)})
     if wants_writes:
-        return add_text(said, writes_text(host, found.region.name, found.undo, found.writes, options, True))
+        return add_text(said, releasing_text(host, found, options))
     region_rows(said, [found.region])
     return said.line("It can be taken down; --words tells the register writes.")
 
 
-def writes_text(host: Host, name: str, writes: tuple, undo: tuple, options, is_release: bool = False) -> str:
-    """Writes and those that take them back; of a release, those that release come first."""
+def facts_of(found, with_writes: bool) -> dict:
+    """What is planned or released, without lists of writes that nobody asked for."""
+    return {name: fact for name, fact in found.as_dict().items() if with_writes or name not in ("writes", "undo", "enables")}
+
+
+def making_text(host: Host, found: Planned, options) -> str:
+    """The writes that make a region, from reset on, and those that take it down."""
+    name, writes = found.region.name, found.enables + found.writes
     if options.csv:
-        return csv_text(undo if is_release else writes)
+        return csv_text(writes)
     if options.c:
-        return c_text(name, writes, undo)
+        return c_text(name, ("create", writes), ("destroy", found.undo))
     makes = (f"{name}: {len(writes)} writes of 32 bits make it. Offsets are those in a node's HDM decoder capability structure.\n"
-             "# Before them bit 1 of the word at 0x4 is set in each endpoint.")
-    ends = f"{name}: {len(undo)} writes take it down."
-    if is_release:
-        return words_text(host, ends, undo) + "\n" + words_text(host, f"{name}: {len(writes)} writes take back all but the last of "
-                                                                "these.", writes)
-    return words_text(host, makes, writes) + "\n" + words_text(host, ends, undo)
+             f"# A commit is done when its word reads as is said, within {MOST_WAIT}; if bit 11 is set then, it has failed.")
+    return words_text(host, makes, writes) + "\n" + words_text(host, f"{name}: {len(found.undo)} writes take it down.", found.undo)
+
+
+def releasing_text(host: Host, found: Released, options) -> str:
+    """The writes that take a region down, and those that take all but the last of them back."""
+    name = found.region.name
+    if options.csv:
+        return csv_text(found.writes)
+    if options.c:
+        return c_text(name, ("destroy", found.writes), ("undo", found.undo))
+    ends, back = (f"{name}: {len(found.writes)} writes take it down.",
+                  f"{name}: {len(found.undo)} writes take back all but the last of these.")
+    return words_text(host, ends, found.writes) + "\n" + words_text(host, back, found.undo)
 
 
 def add_text(said: Answer, text: str) -> Answer:
@@ -91,9 +108,9 @@ def add_text(said: Answer, text: str) -> Answer:
     return said
 
 
-def refused_answer(host: Host, refused: Refusal) -> Answer:
+def refused_answer(host: Host, asked: list, refused: Refusal) -> Answer:
     """A refusal with what stands in the way, by window and node."""
-    means, advice = refusal_words(refused)
+    means, advice = of_plan(host, asked, refused) or refusal_words(refused)
     words = [reason_words(it, host) for it in refused.reasons]
     reasons = [{**it.as_dict(), "means": told[0], "advice": told[1]} for it, told in zip(refused.reasons, words)]
     said = Answer({"host": host.name, "refused": {**refused.as_dict(), "means": means, "advice": advice, "reasons": reasons}}, 8)
