@@ -1,38 +1,43 @@
-"""The proved program as a process, over temporary files."""
+"""The proved program as a process. Its files are in memory, so that nothing stays behind where a run is stopped."""
 
 import os
 import subprocess
-import tempfile
 from typing import Optional
 
 from . import texts
 from .errors import Broken, NoEngine, fault_of
+from .files import write_all
+from .incoming import bytes_of
 
-SENTINEL = b"step\n"  # a line that changes nothing, and is always answered ANSWER
-ANSWER = b"bad line 4 missing\n"
+# Two lines that change nothing, and what each of them is always answered: where these answers stand side by side, a reply has ended.
+SENTINELS, ANSWERS = b"step\nbegin\n", [b"bad line 4 missing\n", b"bad line 5 missing\n"]
 NAMES = ("table", "topology", "image")
 NO_LIBRARY = ("windows, trees, decoders, all places of a broken rule and register writes are told by libcxlplan.so, which is not found: run "
               "./prove --library in the repository, or ./install, or name it in CXLPLAN_LIBRARY")
 WRITING = (b"create", b"destroy", b"begin", b"step", b"abort")  # the lines that may write registers
 
 
+def not_begun(program: str, fault: OSError) -> NoEngine:
+    return NoEngine(f"{program}: {fault.strerror}")
+
+
 class Files:
-    """A folder with the files of a host, for one run."""
+    """The files of a host in memory, for one run. The other process has them by the numbers with which they are open."""
 
     def __init__(self, *contents: Optional[bytes]) -> None:
-        self.place = tempfile.TemporaryDirectory(prefix="cxlplan-")
-        self.names = []
+        self.ends: list = []
         for name, content in zip(NAMES, contents):
             if content is not None:
-                with open(os.path.join(self.place.name, name), "wb") as file:
-                    file.write(content)
-                self.names.append(name)
+                self.ends.append(os.memfd_create(f"cxlplan-{name}"))
+                write_all(self.ends[-1], content)
+        self.names = [f"/proc/self/fd/{end}" for end in self.ends]
 
     def __enter__(self) -> "Files":
         return self
 
     def __exit__(self, *_) -> None:
-        self.place.cleanup()
+        while self.ends:
+            os.close(self.ends.pop())
 
 
 class ProgramEngine:
@@ -46,8 +51,11 @@ class ProgramEngine:
     def call(self, *words: str, contents: tuple = (), behind: tuple = (), script: bytes = b"") -> tuple:
         """The status and the text of `cxlplan WORDS.. FILES.. BEHIND..`."""
         with Files(*contents) as files:
-            ran = subprocess.run([self.program, *words, *files.names, *behind], input=script, cwd=files.place.name,
-                                 stdout=subprocess.PIPE, stderr=subprocess.DEVNULL, check=False)
+            try:
+                ran = subprocess.run([self.program, *words, *files.names, *behind], input=script, pass_fds=files.ends,
+                                     stdout=subprocess.PIPE, stderr=subprocess.DEVNULL, check=False)
+            except OSError as fault:
+                raise not_begun(self.program, fault) from None
         if ran.returncode < 0:
             raise Broken(f"{self.program} was ended by signal {-ran.returncode}", ran.returncode)
         return ran.returncode, ran.stdout
@@ -74,7 +82,7 @@ class ProgramEngine:
         return self.call("gen", str(count))
 
     def version(self) -> str:
-        return self.call("--version")[1].decode().strip()
+        return self.call("--version")[1].decode("ascii", "backslashreplace").strip()
 
     def tree(self, cedt: bytes, topo: bytes) -> list:
         raise NoEngine(NO_LIBRARY)
@@ -83,6 +91,9 @@ class ProgramEngine:
         raise NoEngine(NO_LIBRARY)
 
     def decoders(self, cedt: bytes, topo: bytes, image: bytes, only_used: bool = False) -> list:
+        raise NoEngine(NO_LIBRARY)
+
+    def controls(self, cedt: bytes, topo: bytes, image: bytes) -> dict:
         raise NoEngine(NO_LIBRARY)
 
     def breaches(self, cedt: bytes, topo: bytes, image: bytes) -> list:
@@ -105,51 +116,52 @@ class ProgramSession:
     def __init__(self, engine: ProgramEngine, cedt: bytes, topo: bytes, image: Optional[bytes], teller) -> None:
         self.engine, self.teller, self.files = engine, teller, Files(cedt, topo, image)
         self.host = (cedt, topo, image)
-        self.lines, self.writing = b"", b""  # all that were sent, and those up to the last that may write
+        self.lines: list = []  # all that were sent
+        self.writing = 0  # how many there are up to the last that may write
         self.is_watched = False
-        self.process = subprocess.Popen([engine.program, "run", *self.files.names], cwd=self.files.place.name,
-                                        stdin=subprocess.PIPE, stdout=subprocess.PIPE, stderr=subprocess.DEVNULL)
-        self.send(SENTINEL)
-        self.reply(True)
+        # a stop at the terminal is this process's to take
+        try:
+            self.process = subprocess.Popen([engine.program, "run", *self.files.names], pass_fds=self.files.ends, start_new_session=True,
+                                            stdin=subprocess.PIPE, stdout=subprocess.PIPE, stderr=subprocess.DEVNULL)
+        except OSError as fault:
+            self.files.__exit__()
+            raise not_begun(engine.program, fault) from None
+        self.send(b"")
+        self.reply()
 
     def ended(self, said: bytes):
         """What the program ended with in place of a session."""
         said += self.process.stdout.read()
-        status, text = self.process.wait(), said.decode()
+        status, text = self.process.wait(), said.decode("ascii", "backslashreplace")
         self.close()
         return texts.breach(text) if text.startswith("breach ") else texts.refusal(text) if status == 8 else fault_of(status, text)
 
-    def send(self, lines: bytes) -> None:
+    def send(self, line: bytes) -> None:
         try:
-            self.process.stdin.write(lines)
+            self.process.stdin.write(line + SENTINELS)
             self.process.stdin.flush()
         except BrokenPipeError:
             pass  # the program has ended; what it said is read next
 
     def act(self, line: str) -> str:
         """What the session replies to a line; nothing to a comment or a blank line."""
-        sent = line.encode()
-        if b"\n" in sent:
-            raise ValueError("a line of a session has no line feed within it")
-        words = sent.split()
-        is_passed_over = len(sent) <= 4096 and (not words or words[0].startswith(b"#"))
-        self.send(sent + b"\n" + SENTINEL)
-        reply = self.reply(is_passed_over)
-        self.lines += sent + b"\n"
-        if words[:1] and words[0] in WRITING:
-            self.writing = self.lines
-        return reply.decode()
+        sent = bytes_of(line) + b"\n"
+        self.send(sent)
+        reply = self.reply()
+        self.lines.append(sent)
+        if sent.split(None, 1)[:1] and sent.split(None, 1)[0] in WRITING:
+            self.writing = len(self.lines)
+        return reply.decode("ascii", "backslashreplace")
 
-    def reply(self, is_passed_over: bool) -> bytes:
-        """The lines up to the answer of the sentinel. A line that is not passed over has one line of reply at the least."""
-        reply = b""
-        while True:
+    def reply(self) -> bytes:
+        """The lines up to the answers of the sentinels."""
+        lines: list = []
+        while lines[-2:] != ANSWERS:
             text = self.process.stdout.readline()
             if not text:
-                raise self.ended(reply)
-            if text == ANSWER and (reply or is_passed_over):
-                return reply
-            reply += text
+                raise self.ended(b"".join(lines))
+            lines.append(text)
+        return b"".join(lines[:-2])
 
     def watch(self) -> None:
         """Has the words of writes told. Where nothing tells them, that is said at once."""
@@ -158,20 +170,17 @@ class ProgramSession:
 
     def words(self) -> list:
         """The register writes that the last line sent that may write; none where they are not watched."""
-        return self.teller.words(*self.host, self.writing) if self.is_watched and self.writing else []
+        return self.teller.words(*self.host, b"".join(self.lines[:self.writing])) if self.is_watched and self.writing else []
 
     def image(self) -> bytes:
         """The registers as they stand."""
-        return self.teller.image(*self.host, self.lines)
+        return self.teller.image(*self.host, b"".join(self.lines))
 
     def close(self) -> None:
-        if self.process.poll() is None:
-            self.process.stdin.close()
-            self.process.stdout.read()
-            self.process.wait()
         for pipe in (self.process.stdin, self.process.stdout):
             try:
                 pipe.close()
             except BrokenPipeError:
                 pass
+        self.process.wait()
         self.files.__exit__()

@@ -13,8 +13,6 @@ from .errors import NoEngine
 HOW = ("neither libcxlplan.so nor the program cxlplan is found: run ./prove in the repository, or ./install, or name one in "
        "CXLPLAN_LIBRARY or CXLPLAN")
 HERE = os.path.dirname(os.path.realpath(__file__))
-TOP = os.path.dirname(os.path.dirname(HERE))  # the repository, where the package stands in one
-PREFIX = os.path.dirname(os.path.dirname(TOP))  # of an install, where it stands in share/cxlplan/python
 _kept = threading.local()
 
 
@@ -23,6 +21,21 @@ def places(name: str, variable: str, folders: list) -> list:
     if os.environ.get(variable):
         return [os.environ[variable]]
     return [os.path.join(folder, name) for folder in folders]
+
+
+def above(*folders: str) -> Optional[str]:
+    """The folder above these, where the package stands in them."""
+    behind = os.path.join(os.sep, *folders, "cxlplan")
+    return HERE[:-len(behind)] or os.sep if HERE.endswith(behind) else None
+
+
+def homes(built: str, installed: str) -> list:
+    """The folders of a built file: that of an install, where the package stands in share/cxlplan/python, or that of the checkout around it.
+    Nothing else that is found by going up is taken, since others may write there."""
+    prefix, top = above("share", "cxlplan", "python"), above("python")
+    if prefix is not None:
+        return [os.path.join(prefix, installed)]
+    return [os.path.join(top, built)] if top is not None and os.path.isfile(os.path.join(top, "crates.txt")) else []
 
 
 def library():
@@ -37,8 +50,7 @@ def library():
 
 def program_file(name: str = "cxlplan", variable: str = "CXLPLAN") -> Optional[str]:
     """The proved program of a repository, of an install, or on the search path."""
-    folders = [os.path.join(TOP, "crates", name, "out"), os.path.join(PREFIX, "bin")]
-    found = next((file for file in places(name, variable, folders) if os.path.isfile(file) and os.access(file, os.X_OK)), None)
+    found = next((file for file in places(name, variable, homes(f"crates/{name}/out", "bin")) if os.path.isfile(file) and os.access(file, os.X_OK)), None)
     return found or (None if os.environ.get(variable) else shutil.which(name))
 
 

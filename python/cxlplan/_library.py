@@ -47,10 +47,13 @@ def places():
     named = os.environ.get("CXLPLAN_LIBRARY")
     if named:
         return [named]
-    top = os.path.dirname(os.path.dirname(_HERE))
-    # of PREFIX/share/cxlplan/python/cxlplan the library is in PREFIX/lib
-    prefix = os.path.dirname(os.path.dirname(top))
-    return [f"{_HERE}/{_NAME}", f"{top}/crates/cxl_c/out/{_NAME}", f"{prefix}/lib/{_NAME}", _NAME]
+    top, folders = os.path.dirname(_HERE), []
+    if top.endswith("/share/cxlplan/python"):  # of an install
+        folders = [top[:-len("/share/cxlplan/python")] + "/lib"]
+    elif top.endswith("/python") and os.path.isfile(f"{os.path.dirname(top)}/crates.txt"):  # of a checkout, which has the crate
+        folders = [f"{os.path.dirname(top)}/crates/cxl_c/out"]
+    # of a wheel it stands beside this file
+    return [f"{_HERE}/{_NAME}", *(f"{folder}/{_NAME}" for folder in folders), _NAME]
 
 
 def _load():

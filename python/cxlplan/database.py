@@ -5,6 +5,7 @@ import sqlite3
 from contextlib import contextmanager
 from itertools import groupby
 from operator import itemgetter
+from typing import Any
 
 from .errors import BadFile
 from .fleet import Keeper, digest_of, fault_in, taken_file
@@ -71,7 +72,7 @@ class Database(Keeper):
         super().__init__()
         self.file = os.path.realpath(file)
         self.end = taken_file(self.file)  # closed last, since that ends SQLite's own locks
-        self.base = None
+        self.base: Any = None
         try:
             is_new = self.is_new()
             with self.told():

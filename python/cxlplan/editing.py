@@ -4,7 +4,7 @@ its records or decoders have to be those that the text says."""
 import re
 import struct
 
-from . import texts
+from . import incoming, texts
 from ._engine import engine
 from .errors import BadWords, Broken
 from .facts import Bridge, Decoder, Maps, Window
@@ -14,13 +14,19 @@ WAYS_CODES = {1: 0, 2: 1, 4: 2, 8: 3, 16: 4, 3: 8, 6: 9, 12: 10}
 FLAGS = {"lock": 8, "commit": 9, "committed": 10, "error": 11, "host-only": 12}
 HEAD = struct.Struct("<4sIBB6s8sI4sI")  # of a CEDT
 HEAD_FIELDS = ("revision", "oem-id", "oem-table", "oem-revision", "creator", "creator-revision")
-TOKEN = re.compile(r'"((?:[^"\\]|\\x[0-9a-f]{2}|\\\\|\\")*)"|(\S+)')
+TOKEN = re.compile(r'"(?P<quoted>(?:[^"\\]|\\x[0-9a-f]{2}|\\\\|\\")*)"(?=\s|$)|(?P<comment>#.*)|(?P<plain>\S+)')
+ESCAPE = re.compile(r'\\(?:x([0-9a-f]{2})|(["\\]))')
 
 
 def lines_of(text: str):
-    """Each line that has words, with its number; what stands behind # is a comment."""
+    """Each line that has words, with its number. What stands behind # is a comment; within quotes it is none."""
     for number, line in enumerate(text.split("\n"), 1):
-        words = [quoted or plain for quoted, plain in TOKEN.findall(re.sub(r"(^|\s)#.*", "", line))]
+        words = []
+        for found in TOKEN.finditer(line):
+            if (found["plain"] or "").startswith('"'):
+                raise fault(number, f"{incoming.quoted(found['plain'])} has a quote that is not closed, or another escape than \\xNN")
+            if found.lastgroup != "comment":
+                words.append(found[found.lastgroup])
         if words:
             yield number, words
 
@@ -33,32 +39,40 @@ def pairs_of(number: int, words: list, names) -> dict:
     """Fields by their names."""
     if len(words) % 2:
         raise fault(number, f"{words[-1]!r} has no value, or a name is missing")
-    found = dict(zip(words[::2], words[1::2]))
-    for name in found:
+    found: dict = {}
+    for name, value in zip(words[::2], words[1::2]):
         if name not in names:
-            raise fault(number, f"{name!r} is none of {', '.join(names)}")
+            raise fault(number, f"{incoming.quoted(name)} is none of {', '.join(names)}")
+        if name in found or SAME.get(name) in found:
+            raise fault(number, f"{name} stands there twice" if name in found else f"{name} and {SAME[name]} are one field")
+        found[name] = value
     return found
 
 
+# Fields by which the same is said.
+SAME = {"ways": "ways-code", "ways-code": "ways", "gran": "gran-code", "gran-code": "gran", "targets": "skip", "skip": "targets"}
+
+
 def value_of(number: int, word: str, most: int) -> int:
-    if not re.fullmatch("0x[0-9A-Fa-f]+|[0-9]+", word) or texts.number(word.lower()) > most:
-        raise fault(number, f"{word!r} is no number up to {most:#x}")
-    return texts.number(word.lower())
+    try:
+        return incoming.number(word, most)
+    except BadWords:
+        raise fault(number, f"{incoming.quoted(word)} is no number up to {most:#x}") from None
 
 
 # ---- Registers.
 
 def image_text(host: Host) -> str:
     """The decoders of a host's image, a line each. Fields that are 0 are left out."""
-    text = f"# The decoders of {host.name}. What a line leaves out is 0; a decoder without a line stays as it is.\n"
-    last = None
+    name = incoming.printable(host.name)
+    lines = [f"# The decoders of {name}. What a line leaves out is 0; a decoder without a line stays as it is.\n"]
+    kinds, last = {node.name: node.kind for node in host.nodes}, None
     for decoder in host.decoders:
         if decoder.node != last:
             last = decoder.node
-            node = host.node(last)
-            text += f"\n# {node.kind} {node.name}\n"
-        text += decoder_line(decoder) + "\n"
-    return text
+            lines.append(f"\n# {kinds[last]} {last}\n")
+        lines.append(decoder_line(decoder) + "\n")
+    return "".join(lines)
 
 
 def decoder_line(decoder: Decoder) -> str:
@@ -86,7 +100,7 @@ DECODER_FIELDS = ("base", "size", "ways", "ways-code", "gran", "gran-code", *FLA
 def image_of(host: Host, text: str) -> bytes:
     """The image of a text over the host's own image: each decoder that has a line gets its words."""
     image = bytearray(host.registers if host.registers is not None else reset_image(host))
-    places = places_of(host)
+    before, places = {(it.node, it.number): it.words for it in host.decoders}, places_of(host)
     made: dict = {}
     for number, words in lines_of(text):
         if words[0] != "decoder" or len(words) < 3:
@@ -98,14 +112,13 @@ def image_of(host: Host, text: str) -> bytes:
             raise fault(number, f"decoder {place[1]} of {place[0]} stands there twice")
         made[place] = pairs_of(number, words[3:], DECODER_FIELDS)
         struct.pack_into("<8I", image, places[place], *words_of(number, made[place]), 0)
-    compare(host, bytes(image), made, {place: struct.unpack_from("<7I", image, places[place]) for place in made})
+    compare(host, bytes(image), made, before, {place: struct.unpack_from("<7I", image, places[place]) for place in made})
     return bytes(image)
 
 
-def compare(host: Host, image: bytes, made: dict, words: dict) -> None:
+def compare(host: Host, image: bytes, made: dict, before: dict, words: dict) -> None:
     """Holds an image that was made against what the proved calls tell of it: each decoder of the text has to hold the fields that the text
     says, and nothing besides, and each other one what it held."""
-    before = {(it.node, it.number): it.words for it in host.decoders}
     for it in Host(host.table.data, host.topology.data, image).decoders:
         place = it.node, it.number
         if it.words != words.get(place, before.get(place, it.words)):
@@ -125,11 +138,11 @@ def held(decoder: Decoder) -> dict:
 def wanted(name: str, fields: dict, told):
     """What a text says of a field; of ways and granularity by their codes what is told."""
     if name in ("ways", "gran"):
-        return texts.number(fields[name].lower()) if name in fields else told
+        return incoming.number(fields[name]) if name in fields else told
     if name == "targets":
-        ports = [texts.number(it.lower()) for it in fields.get(name, "0").split(",")]
+        ports = [incoming.number(it) for it in fields.get(name, "0").split(",")]
         return tuple((ports + [0] * 8)[:len(told)])
-    return texts.number(fields.get(name, "0").lower())
+    return incoming.number(fields.get(name, "0"))
 
 
 def words_of(number: int, fields: dict) -> tuple:
@@ -174,7 +187,7 @@ def reset_image(host: Host) -> bytes:
 def table_text(table: Table) -> str:
     """A table's head and records, a line each; reserved fields are not told."""
     _, _, revision, _, *rest = HEAD.unpack_from(table.normal())
-    text = f"# {table.name}. Length and checksum are made anew; windows count from 0.\n"
+    text = f"# {incoming.printable(table.name)}. Length and checksum are made anew; windows count from 0.\n"
     text += "cedt " + " ".join(f"{name} {quoted(value)}" for name, value in zip(HEAD_FIELDS, [revision, *rest])) + "\n"
     bodies = iter(bodies_of(table.normal()))
     for record in table.records:
@@ -227,6 +240,8 @@ def table_of(text: str) -> bytes:
         if lacking:
             raise fault(number, f"{lacking[0]} is missing")
         if words[0] == "cedt":
+            if head is not None:
+                raise fault(number, "cedt stands there twice")
             head = head_of(number, fields)
         else:
             body += record_of(number, words[0], fields)
@@ -237,7 +252,10 @@ def table_of(text: str) -> bytes:
 
 def head_of(number: int, fields: dict) -> bytes:
     def packed(name: str, size: int) -> bytes:
-        data = re.sub(r"\\x([0-9a-f]{2})", lambda it: chr(int(it[1], 16)), fields.get(name, "")).encode("latin-1")
+        try:
+            data = ESCAPE.sub(lambda it: chr(int(it[1], 16)) if it[1] else it[2], fields.get(name, "")).encode("latin-1")
+        except UnicodeEncodeError:
+            raise fault(number, f"{name} has a letter of more than one byte") from None
         if len(data) > size:
             raise fault(number, f"{name} has more than {size} bytes")
         return data.ljust(size, b"\0")
@@ -298,7 +316,7 @@ def read_back(table: bytes, text: str) -> bytes:
 def meaning(words: list) -> tuple:
     """A record's line with its numbers as numbers, by its fields' names."""
     def plain(word: str):
-        parts = word.lower().split(",")
+        parts = [re.sub("^(0x)?0+(?=[0-9a-f])", r"\1", it) for it in word.lower().split(",")]
         return tuple(texts.number(it) if re.fullmatch("0x[0-9a-f]+|[0-9]+", it) and len(it) < 40 else it for it in parts)
     return words[0], tuple(sorted((name, plain(word)) for name, word in zip(words[1::2], words[2::2])))
 

@@ -4,15 +4,15 @@ from typing import Optional
 
 
 class CxlError(Exception):
-    """Why there is no answer. `text` is what the program said of it, without a line's end."""
+    """Why there is no answer. `text` is what the program said of it, without a line's end; `hint` what may be meant instead."""
 
     def __init__(self, text: str, status: int = 1, cause: str = "", place: str = "") -> None:
         super().__init__(text)
-        self.text, self.status, self.cause, self.place = text, status, cause, place
+        self.text, self.status, self.cause, self.place, self.hint = text, status, cause, place, ""
 
     def as_dict(self) -> dict:
-        return {"error": type(self).__name__, "text": self.text, "status": self.status, "cause": self.cause,
-                "place": self.place}
+        said = {"error": type(self).__name__, "text": self.text, "status": self.status, "cause": self.cause, "place": self.place}
+        return {**said, "hint": self.hint} if self.hint else said
 
 
 class NoEngine(CxlError):

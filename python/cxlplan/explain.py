@@ -145,3 +145,17 @@ def reason_words(reason, host) -> tuple:
         if int(start, 16) >= int(end, 16):
             advice = "end the region that lies highest below these nodes first"
     return said, advice
+
+
+def explained(word: str) -> list:
+    """What a rule, a refusal, a reason or a verdict says, and what to do, in sentences; none of another word."""
+    if word.upper() in RULES:
+        wants, why, advice = RULES[word.upper()]
+        return [f"{word.upper()} wants: {wants}.", f"Else: {why}.", f"To do: {advice}."]
+    found = [pair for table in (REFUSALS, REASONS) for pair in [table.get(word)] if pair]
+    if found:
+        return [text for means, advice in found for text in (f"{means[0].upper()}{means[1:]}.", f"To do: {advice}.")]
+    return [f"A window's verdict: {VERDICTS[word]}."] if word in VERDICTS else []
+
+
+EXPLAINED = (*RULES, *dict.fromkeys((*REFUSALS, *REASONS, *VERDICTS)))  # the words of which something is said

@@ -9,7 +9,7 @@ from . import texts
 from ._engine import engine
 from .errors import BadFile, Breach, CxlError, NoEngine, Refusal, fault_of
 from .facts import Decoder, Down, Node, Place, Planned, Position, Region, Up, Window
-from .incoming import FILES, read_file, read_within
+from .incoming import FILES, address, read_file, read_within
 from .session import Session, create_line
 
 
@@ -41,7 +41,7 @@ class Table:
 
     def route(self, hpa: int) -> Position:
         """To which target of which window an address goes; with no window that can be used a refusal is raised."""
-        return texts.position(answered(engine().route(self.data, hpa)))
+        return texts.position(answered(engine().route(self.data, address(hpa))))
 
     def normal(self) -> bytes:
         """The table's bytes with reserved fields zero."""
@@ -79,16 +79,17 @@ class Host:
         return cls(*map(read_file, names), name=names[-1], files=(*names, FILES[2])[:3])
 
     @classmethod
-    def from_folder(cls, folder: str) -> "Host":
-        """A host of a folder that cxl-capture made."""
+    def from_folder(cls, folder: str, is_reset: bool = False) -> "Host":
+        """A host of a folder that cxl-capture made; its image is not looked at where it is to be as after reset."""
         if not os.path.isdir(folder):
             why = "is no folder" if os.path.lexists(folder) else "No such file or directory"
             raise BadFile(f"{folder}: {why}", 2, "no folder", folder)
-        names = [os.path.join(folder, file) for file in FILES]
-        for name in names:
+        files = FILES[:2] if is_reset else FILES
+        for name in (os.path.join(folder, file) for file in files):
             if not os.path.lexists(name):
                 raise BadFile(f"{name}: is not there; cxl-capture makes {', '.join(FILES)}", 2, "missing", name)
-        return cls(*(read_within(folder, file) for file in FILES), name=folder, files=tuple(names))
+        return cls(*(read_within(folder, file) for file in files), name=folder,
+                   files=tuple(os.path.join(folder, file) for file in FILES))
 
     @property
     def _bytes(self) -> tuple:

@@ -29,8 +29,8 @@ def number(word: str, most: int = LARGEST) -> int:
     if not NUMBER.fullmatch(word):
         hint = "; in hexadecimal 0x is missing" if re.fullmatch("[0-9A-Fa-f]+", word) else "; sizes are bytes, as 0x40000000 for 1 GiB"
         raise BadWords(f"{quoted(word)} is no number{hint}", 1, "number", word)
-    digits = word[2:] if word[:2] == "0x" else word
-    value = int(digits, 16 if word[:2] == "0x" else 10) if len(digits.lstrip("0")) <= 20 else most + 1
+    digits = (word[2:] if word[:2] == "0x" else word).lstrip("0") or "0"
+    value = int(digits, 16 if word[:2] == "0x" else 10) if len(digits) <= 20 else most + 1
     if value > most:
         raise BadWords(f"{quoted(word)} is above {most:#x}", 1, "number", word)
     return value
@@ -45,6 +45,49 @@ def amount(word: str, most: int = LARGEST) -> int:
     if value > most:
         raise BadWords(f"{quoted(word)} is above {most:#x}", 1, "number", word)
     return value
+
+
+def single(word: str) -> str:
+    """A name that is to stand in a line, as one word of it."""
+    if len(word.split()) != 1 or word.split() != [word]:
+        raise BadWords(f"{quoted(word)} is no word", 1, "name", word)
+    return word
+
+
+def address(value: int) -> int:
+    """A number of 64 bits, as a host address is one."""
+    if not 0 <= value <= LARGEST:
+        raise BadWords(f"{value:#x} is no number of 64 bits" if abs(value) < 1 << 200 else "that is no number of 64 bits", 1, "number")
+    return value
+
+
+def bytes_of(line: str) -> bytes:
+    """The bytes of a line of a script as it was typed, also where they are no UTF-8."""
+    if "\n" in line:
+        raise BadWords("a line of a session has no line feed within it", 1, "line")
+    try:
+        return line.encode("utf-8", "surrogateescape")
+    except UnicodeEncodeError:
+        return line.encode("utf-8", "replace")
+
+
+# Which words of a line of a script are numbers of bytes, counted from its verb.
+BYTES_AT = {"create": 3, "range": 2, "spread": 2, "load": 2}
+
+
+def in_bytes(line: str) -> str:
+    """A line of a script in which numbers of bytes with a unit, as 1G or gran=4K, are those that the program reads."""
+    words = line.split()
+    first = 1 if words[:1] == ["begin"] else 0
+    verb = words[first] if len(words) > first else ""
+    if verb not in BYTES_AT or not AMOUNT.search(line):
+        return line
+    at, made = first + BYTES_AT[verb], list(words)
+    for place, word in enumerate(words[first + 1:], first + 1):
+        front, size = ("gran=", word[5:]) if verb == "create" and word.startswith("gran=") else ("", word)
+        if AMOUNT.fullmatch(size) and (place == at or front):
+            made[place] = front + (str(amount(size)) if front else f"{amount(size):#x}")
+    return line if made == words else " ".join(made)
 
 
 def quoted(word: str, most: int = 60) -> str:

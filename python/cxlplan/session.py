@@ -5,6 +5,7 @@ from typing import Optional, Union
 from . import texts
 from .errors import CxlError, Refusal
 from .facts import Down, Region, Up
+from .incoming import single
 
 
 class Session:
@@ -41,11 +42,11 @@ class Session:
         return self.show(name)[0]
 
     def destroy(self, name: str) -> None:
-        self.ask(f"destroy {name}")
+        self.ask(f"destroy {single(name)}")
 
     def show(self, name: str) -> tuple:
         """A live region, and its decoders' rows."""
-        return texts.shown(self.ask(f"show {name}"))
+        return texts.shown(self.ask(f"show {single(name)}"))
 
     # ---- Addresses.
 
@@ -53,7 +54,7 @@ class Session:
         return texts.down(self.ask(f"down {hpa:#x}").rstrip("\n"))
 
     def up(self, endpoint: str, dpa: int) -> Up:
-        return texts.up(self.ask(f"up {endpoint} {dpa:#x}").rstrip("\n"), endpoint, dpa)
+        return texts.up(self.ask(f"up {single(endpoint)} {dpa:#x}").rstrip("\n"), endpoint, dpa)
 
     def extents(self, hpa: int, length: int) -> list:
         """On which device bytes a range of 1 to 65,536 host bytes lies."""
@@ -65,7 +66,7 @@ class Session:
 
     def poison(self, endpoint: str, payload: bytes) -> tuple:
         """Which host bytes the records of a poison list touch, and the list's flags."""
-        return texts.poison(self.ask(f"poison {endpoint} {payload.hex()}"))
+        return texts.poison(self.ask(f"poison {single(endpoint)} {payload.hex()}"))
 
     # ---- Memory.
 
@@ -101,5 +102,5 @@ class Session:
 
 def create_line(name: str, kind: str, size: int, *endpoints: str, ways: Optional[int] = None, gran: Optional[int] = None) -> str:
     """The line of a script that makes a region."""
-    words = ["create", name, kind, f"{size:#x}"] + ([f"gran={gran}"] if gran is not None else [])
-    return " ".join(words + ([f"ways={ways}"] if ways is not None else list(endpoints)))
+    words = ["create", single(name), single(kind), f"{size:#x}"] + ([f"gran={gran}"] if gran is not None else [])
+    return " ".join(words + ([f"ways={ways}"] if ways is not None else list(map(single, endpoints))))

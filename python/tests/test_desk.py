@@ -57,13 +57,20 @@ class Asked(Case):
                 (["0x110000100"], "down 0x110000100 region auto0 slot 1 position 1 via hb32:0:0 endpoint d2 dpa 0x0\n"),
                 (["d2", "0x0"], "host 0x110000100 region auto0\n"),
                 (["0x1100000f0", "--length", "32"], "extent 0x1100000f0 16 d1 0xf0\nextent 0x110000100 16 d2 0x0\n"),
-                (["0x110000000", "--length", "0x100000"], "".join(f"slot {i} d{i + 1} 262144\n" for i in range(4))),
+                (["0x1100000f0", "--length", "1K"], said("where", *FOUR, "0x1100000f0", "--length", "1024")[1]),
+                (["0x110000000", "--length", "1M"], "".join(f"slot {i} d{i + 1} 262144\n" for i in range(4))),
                 (["d2", "0xc0", "--length", "128"],
                  "run 0x1100001c0 length 64 region auto0\nrun 0x110000500 length 64 region auto0\n")):
             with self.subTest(words):
                 self.assertEqual(said("where", *FOUR, *words), (0, text, ""))
         for words, status, line in (
-                (["0x0"], 8, "cxldesk: unmapped\n"), (["d9", "0"], 8, "cxldesk: no such endpoint d9\n"),
+                (["0x0"], 8, "cxldesk: unmapped; no region is so low; of a device's byte the question is: HOST ENDPOINT DPA\n"),
+                (["0x150000000"], 8, "cxldesk: unmapped\n"), (["110000100"], 8, "cxldesk: unmapped; 0x is missing in front of 110000100\n"),
+                (["d2", "0x110000100"], 8, "cxldesk: unmapped; 0x110000100 is a host address, of which the question is: HOST 0x110000100\n"),
+                (["0x0", "d2"], 1, "cxldesk: ENDPOINT stands before DPA: d2 0x0\n"),
+                (["d9", "0"], 8, "cxldesk: no such endpoint d9; there are d1, d3, d2, d4\n"),
+                (["dd2", "0"], 8, "cxldesk: no such endpoint dd2; d2 is the nearest\n"),
+                (["0x110000000", "--length", "4Q"], 1, "cxldesk: '4Q' is no number; sizes are bytes, as 0x40000000 for 1 GiB\n"),
                 (["d2", "0x1", "--length", "64"], 1, "cxldesk: a range of device bytes begins at a multiple of 64 and has a multiple of 64 bytes\n"),
                 (["11000f"], 1, "cxldesk: '11000f' is no number; in hexadecimal 0x is missing\n"),
                 (["1G"], 1, "cxldesk: '1G' is no number; sizes are bytes, as 0x40000000 for 1 GiB\n")):
@@ -78,7 +85,12 @@ class Asked(Case):
                 ("r0 pmem 0x10000000 d1 d2", ["refused size", "multiple of 256 MiB", "0x is missing"]),
                 ("r0 pmem 0x50000000 ways=5", ["refused ways 5", "1, 2, 3, 4, 6, 8, 12 or 16"]),
                 ("r0 pmem 20000000 d1 d2", ["refused size", "0x is missing"]),
-                ("r0 pmem 1G d1 d2", ["bad line 15 number"]), ("destroy auto0", ["no such region auto0"])):
+                ("r0 pmem 1G d1 d2", ["refused span d1 no-room 0x0 0x10000000"]), ("r0 pmem 1Q d1 d2", ["bad line 15 number", "'1Q' is no size"]),
+                ("r0 pmme 1G d1 d2", ["bad line 10 kind", "'pmme' is no kind of memory"]),
+                ("r0 pmem 1G d1,d2", ["bad line 26 name", "'d1,d2' is no name", "endpoints stand apart: d1 d2"]),
+                ("r0 pmem 1G d1 hb1", ["no such endpoint hb1"]), ("r0 pmem 1G d1 dd4", ["no such endpoint dd4", "d4 is the nearest"]),
+                ("r0 pmem 40000000 d1 d2", ["refused size", "'40000000' is decimal", "0x40000000 is 1 GiB"]),
+                ("destroy auto0", ["no such region auto0"])):
             with self.subTest(words):
                 status, text, line = said("plan", "--reset", *FOUR[:2], words)
                 self.assertEqual((status, line), (8, ""))
@@ -104,9 +116,24 @@ class Asked(Case):
 
     def test_diff(self):
         self.assertEqual(said("diff", *FOUR, *LOST), (8, "".join(f"~ decoder {name} 0 lock yes -> no\n" for name in ("hb16", "hb32", "d1", "d3", "d2"))
-                                                      + "~ decoder d4 0 lock yes -> no gran 256 -> 512\n- region 0x110000000\n"
+                                                      + "~ decoder d4 0 lock yes -> no gran 256 -> 512\n- region 0x110000000 size 0x40000000 window 0 gran 256 ways 4 "
+                                                      "kind pmem slots d1:0x0,d2:0x0,d3:0x0,d4:0x0\n"
                                                       "~ verdict check verdict sound, 1 regions -> breach K12 d4 0\n", ""))
         self.assertEqual(said("diff", *FOUR, *FOUR), (0, "", ""))
+
+    def test_diff_whole(self):
+        """What is new or gone is told whole: regions, nodes, and decoders with what they held."""
+        host = Host.from_files(*FOUR)
+        idle = self.file("idle", image_of(host, "".join(f"decoder {name} 0\n" for name in ("hb16", "hb32", "d1", "d2", "d3", "d4"))))
+        held = "committed no -> yes commit no -> yes base none -> 0x110000000 size none -> 0x40000000"
+        text = said("diff", *FOUR[:2], idle, *FOUR)[1]
+        self.assertIn(f"~ decoder hb16 0 {held} ways none -> 2 gran none -> 512 targets none -> 0,1 lock none -> yes host_only none -> yes\n", text)
+        self.assertIn(f"~ decoder d4 0 {held} ways none -> 4 gran none -> 256 skip none -> 0 lock none -> yes host_only none -> yes\n", text)
+        self.assertIn("+ region 0x110000000 size 0x40000000 window 0 gran 256 ways 4 kind pmem slots d1:0x0,d2:0x0,d3:0x0,d4:0x0\n", text)
+        text = said("diff", self.captured("x4-pass-switch"), *FOUR)[1]
+        self.assertIn("- node port3 kind switch parent hb32 port 0 decoders 4 targets 8 low yes high yes passthrough no ram 0 pmem 0\n", text)
+        self.assertIn("- decoder mem0 0 committed yes base 0x110000000 size 0x40000000 ways 4 gran 2048 skip 0 lock no host_only yes\n", text)
+        self.assertNotIn("- decoder mem0 1", text)
 
     def test_every_host(self):
         """Each machine and each worked host goes through `show` and `check`; each broken one has words on what was found."""

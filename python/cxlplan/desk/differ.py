@@ -28,9 +28,17 @@ def answer(options) -> Answer:
                         "fields": [{"field": "verdict", "was": verdicts[0], "is": verdicts[1]}]})
     said = Answer({"hosts": [first.name, second.name], "changes": changes}, 8 if changes else 0)
     for change in changes:
-        said.line(f"{SIGNS[change['change']]} {change['what']} {change['name']}" + "".join(
-            f" {it['field']} {text_of(it['was'])} -> {text_of(it['is'])}" for it in change["fields"]))
+        told = told_fields(change)
+        said.line(f"{SIGNS[change['change']]} {change['what']} {change['name']}" + "".join(f" {it}" for it in told))
     return said
+
+
+def told_fields(change: dict) -> list:
+    """The fields of a change: of one that is new or gone what it has or had."""
+    if change["change"] == "changed":
+        return [f"{it['field']} {text_of(it['was'])} -> {text_of(it['is'])}" for it in change["fields"]]
+    side = "is" if change["change"] == "new" else "was"
+    return [f"{it['field']} {text_of(it[side])}" for it in change["fields"]]
 
 
 SIGNS = {"gone": "-", "new": "+", "changed": "~"}
@@ -53,30 +61,49 @@ def compared(first: Host, second: Host, what: str, part: str, key) -> list:
     changes = []
     for name in list(was) + [name for name in now if name not in was]:
         shown = " ".join(map(str, name)) if isinstance(name, tuple) else f"{name:#x}" if what == "region" else str(name)
-        if name not in now or name not in was:
-            change = "gone" if name not in now else "new"
-            changes.append({"what": what, "name": shown, "change": change, "fields": []})
-        else:
-            changed = fields_of(was[name], now[name])
-            changes += [{"what": what, "name": shown, "change": "changed", "fields": changed}] if changed else []
+        change = "gone" if name not in now else "new" if name not in was else "changed"
+        changed = fields_of(was.get(name), now.get(name))
+        if changed:
+            changes.append({"what": what, "name": shown, "change": change, "fields": changed})
     return changes
 
 
 def fields_of(was, now) -> list:
-    """The fields in which two facts differ; a decoder's words are told by its fields."""
-    before, after = was.as_dict(), now.as_dict()
-    names = [name for name in looked_at(was, now) if before[name] != after[name]]
-    return [{"field": name, "was": flat(before[name]), "is": flat(after[name])} for name in names]
+    """The fields in which two facts differ; of one that is new or gone all that it has. A decoder's words are told by its fields."""
+    before, after = map(held, (was, now))
+    names = looked_at(was, now) if was is not None and now is not None else whole(was if now is None else now)
+    return [{"field": name, "was": flat(before.get(name)), "is": flat(after.get(name))} for name in names
+            if before.get(name) != after.get(name)]
+
+
+def held(fact) -> dict:
+    """What a fact has; of a decoder that is not committed its range means nothing."""
+    if fact is None:
+        return {}
+    return {name: value for name, value in fact.as_dict().items()
+            if not isinstance(fact, Decoder) or fact.committed or name not in RANGE}
+
+
+RANGE = ("base", "size", "ways", "gran", "targets", "skip", "lock", "host_only")  # what a committed decoder holds
 
 
 def looked_at(was, now) -> list:
-    """The fields that are compared: of a decoder that is not committed in both, whether it is; what it holds besides means nothing. A
-    region is known by its base, so its number is none."""
+    """The fields that are compared: of a decoder that is not committed in both, whether it is, and what the committed one holds. A region
+    is known by its base, so its number is none."""
     if isinstance(was, Decoder):
-        if not was.committed or not now.committed:
+        if was.committed != now.committed:
+            return ["committed", "commit", "error", *RANGE]
+        if not was.committed:
             return ["committed", "commit", "error"]
         return [it.name for it in fields(was) if it.name != "words"]
     return [it.name for it in fields(was) if not (isinstance(was, Region) and it.name == "name")]
+
+
+def whole(fact) -> list:
+    """The fields by which a fact is told alone: of an idle decoder none."""
+    if isinstance(fact, Decoder):
+        return ["committed", *RANGE] if fact.committed else []
+    return [it.name for it in fields(fact) if it.name not in ("name", "number") and (not isinstance(fact, Region) or it.name != "base")]
 
 
 def flat(value):

@@ -6,7 +6,7 @@ import sys
 from ..errors import BadFile, BadWords
 from ..fleet import CHUNK, File, Keeper, Lines, hosts_in, stamp_of
 from ..incoming import number
-from .output import complain, ended_output
+from .output import NO_OUTPUT, complain, ended_output
 
 BAR = 40  # letters of the progress bar
 MOST_JOBS = 1024
@@ -52,6 +52,8 @@ def keeper_of(options) -> Keeper:
     if options.db is not None:
         from ..database import Database
         return Database(options.db)
+    if options.out is None and sys.stdout is None:
+        raise BadFile("standard output: is closed", NO_OUTPUT, "cannot write")
     return File(options.out) if options.out is not None else Lines(sys.stdout)
 
 

@@ -7,7 +7,7 @@ from contextlib import contextmanager
 from importlib import import_module
 
 from ..errors import CxlError
-from .output import Answer, as_json, complain, tell
+from .output import Answer, as_json, complain, hold_ends, tell
 from .words import Parser
 
 # By the word of the command: the module where its words are said and where it is carried out, which is read where it is asked for.
@@ -75,6 +75,7 @@ def main(words=None) -> int:
     """Carries out a command line, and gives the exit status."""
     words = sys.argv[1:] if words is None else list(words)
     command = next((word for word in words if not word.startswith("-")), "")
+    hold_ends()
     for output in (sys.stdout, sys.stderr):
         if hasattr(output, "reconfigure"):
             output.reconfigure(errors="backslashreplace")  # a name may have signs that a terminal's encoding has not
@@ -89,6 +90,9 @@ def main(words=None) -> int:
     except KeyboardInterrupt:
         complain("interrupted")
         return 130
+    except OSError as fault:
+        return told(CxlError(": ".join(filter(None, (fault.filename and str(fault.filename), fault.strerror or str(fault))))), command,
+                    "--json" in words)
     except (MemoryError, RecursionError):
         complain("memory ran out")
         return 9
@@ -99,7 +103,8 @@ def told(fault: CxlError, command: str, wants_json: bool) -> int:
     status = fault.status if 0 < fault.status < 126 else 1
     if wants_json:
         return status if tell(as_json(command, {"error": fault.as_dict()})) else 1
-    complain(fault.text.split("\n")[0] if fault.status != 8 else fault.text.replace("\n", "; "))
+    text = fault.text.split("\n")[0] if fault.status != 8 else fault.text.replace("\n", "; ")
+    complain(f"{text}; {fault.hint}" if fault.hint else text)
     return status
 
 

@@ -4,6 +4,7 @@ import os
 import sys
 from dataclasses import dataclass, field
 
+from ..facts import plain
 from ..incoming import printable
 
 SCHEMA = "cxldesk/1"  # of python/cxlplan/schema.json; the number rises where a field changes its meaning or goes
@@ -81,6 +82,9 @@ def plain_line(kind: str, row: dict) -> str:
     return " ".join(words)
 
 
+HEADINGS = {"free": "Free", "memory": "Memory", "largest": "Largest", "down": "Way", "host": "Host addresses"}  # of rows, where not by an s
+
+
 def table_lines(kind: str, rows: list) -> list:
     """Rows under each other, with a line of headings."""
     names = [name for name in rows[0] if any(row.get(name) not in (None, "") for row in rows)]
@@ -88,7 +92,7 @@ def table_lines(kind: str, rows: list) -> list:
                                                          for name in names] for row in rows]
     right = [all(is_number(line[place]) for line in cells[1:]) for place in range(len(names))]
     widths = [max(len(line[place]) for line in cells) for place in range(len(names))]
-    return [kind.capitalize() + "s"] + ["  " + "  ".join(
+    return [HEADINGS.get(kind, kind.capitalize() + "s")] + ["  " + "  ".join(
         cell.rjust(width) if is_right else cell.ljust(width)
         for cell, width, is_right in zip(line, widths, right)).rstrip() for line in cells]
 
@@ -124,6 +128,15 @@ def ended_output(fault: OSError) -> int:
     return NO_OUTPUT
 
 
+def hold_ends() -> None:
+    """Has the places of the standard input and outputs taken where they are closed, so that no file comes to stand in them."""
+    for end in range(3):
+        try:
+            os.fstat(end)
+        except OSError:
+            os.open(os.devnull, os.O_RDWR)
+
+
 def complain(text: str) -> None:
     """A line on standard error, where there is one."""
     try:
@@ -135,4 +148,4 @@ def complain(text: str) -> None:
 
 def as_json(command: str, facts: dict) -> str:
     import json
-    return json.dumps({"schema": SCHEMA, "command": command, **facts}, indent=1) + "\n"
+    return json.dumps({"schema": SCHEMA, "command": command, **facts}, indent=1, default=plain) + "\n"

@@ -1,5 +1,6 @@
 """`room`: what is free on a host, and the largest regions that have a plan."""
 
+from ..host import Host
 from ..room import room_of
 from .output import Answer, Hex, Size
 from .words import only_host
@@ -12,8 +13,11 @@ def arguments(parser) -> None:
 
 
 def answer(options) -> Answer:
-    host = only_host(options.words, options)
-    room = room_of(host, (options.kind,) if options.kind else ("ram", "pmem"))
+    return room_answer(only_host(options.words, options), (options.kind,) if options.kind else ("ram", "pmem"))
+
+
+def room_answer(host: Host, kinds: tuple = ("ram", "pmem")) -> Answer:
+    room = room_of(host, kinds)
     said = Answer({"host": host.name, "room": room.as_dict(), "proved": "each region that is told has a proved plan; that none is "
                    "larger was sought by asking the planner, and is not proved"})
     said.rows("free", [{"window": it.window, "base": Hex(it.base), "size": Size(it.size)} for it in room.ranges])

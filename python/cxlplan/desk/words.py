@@ -38,17 +38,15 @@ def take_host(words: list, options) -> tuple:
         raise BadWords(f"no HOST is named: a folder that cxl-capture made, or CEDT TOPO IMAGE; see cxldesk {options.command} --help",
                        1, "missing")
     if os.path.isdir(words[0]):
-        host = Host.from_folder(words[0])
-        if is_reset:
-            host = Host(host.table.data, host.topology.data, None, words[0])
-        return host, words[1:]
+        return Host.from_folder(words[0], is_reset), words[1:]
     count = 2 if is_reset else 3
     if not os.path.lexists(words[0]) and words[0] != "-":
         raise BadFile(f"{words[0]}: No such file or directory", 2, "cannot read", words[0])
     if len(words) < count:
         raise BadWords(f"{words[0]} is no folder, and {' '.join(('CEDT', 'TOPO', 'IMAGE')[:count])} are {count} files; "
                        f"see cxldesk {options.command} --help", 1, "missing")
-    return Host.from_files(*words[:count]), words[count:]
+    from .slips import in_order
+    return in_order(Host.from_files(*words[:count])), words[count:]
 
 
 def only_host(words: list, options) -> Host:

@@ -9,6 +9,7 @@ from ..desk.checking import odd_ones, place_facts
 from ..desk.output import size_words
 from ..desk.showing import state_of
 from ..explain import RULES
+from ..incoming import printable
 from .drawing import Tree, key, title_of, windows_part
 from .ranges import ranges_of
 from .style import STYLE, fills
@@ -23,7 +24,7 @@ def page_of(host, inferred: str = "") -> str:
                     f"hands each address on.</p><ul class=tree>{Tree(host, ranges).part()}</ul>"),
         ("Regions", regions_part(host, ranges)), ("Decoders", decoders_part(host)), ("What the capture put in place", capture_part(inferred)),
         ("How this was made", made_part(host))]
-    title = html.escape(f"CXL memory of {os.path.basename(os.path.normpath(host.name)) or host.name}")
+    title = html.escape(printable(f"CXL memory of {os.path.basename(os.path.normpath(host.name)) or host.name}"))
     body = "".join(f"<section><h2>{name}</h2>{part}</section>\n" for name, part in parts if part)
     return (f'<!DOCTYPE html>\n<html lang=en><head><meta charset=utf-8><meta name=viewport content="width=device-width,initial-scale=1">'
             f'<meta name=color-scheme content="light dark"><link rel=icon href="data:,"><title>{title}</title><style>{STYLE}{fills()}</style>'
@@ -110,12 +111,13 @@ def decoders_part(host) -> str:
 # ---- The capture, and the files.
 
 def capture_part(inferred: str) -> str:
-    return f"<pre>{html.escape(inferred)}</pre>" if inferred else ""
+    lines = [printable(line.expandtabs()) for line in inferred.split("\n")]
+    return f"<pre>{html.escape(chr(10).join(lines))}</pre>" if inferred else ""
 
 
 def made_part(host) -> str:
     files = [("table", host.table), ("topology", host.topology), ("image", host.image)]
-    rows = "".join(f"<tr><td>{what}<td>{html.escape(os.path.basename(it.name))}<td>{len(it.data)}<td>{hashlib.sha256(it.data).hexdigest()[:16]}"
+    rows = "".join(f"<tr><td>{what}<td>{html.escape(printable(os.path.basename(it.name)))}<td>{len(it.data)}<td>{hashlib.sha256(it.data).hexdigest()[:16]}"
                    for what, it in files if it is not None)
     return (f"<p>By cxldesk report, over {html.escape(engine().version())}. The verdict, the regions, the windows' verdicts and where chunks go "
             f"are told by its proved calls.</p><div class=scroll><table><tr><th>file<th>name<th>bytes<th>SHA-256 begins"
