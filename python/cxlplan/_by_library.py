@@ -1,5 +1,6 @@
 """The library in this process. Sessions are the program's, with writes and images of the library."""
 
+from functools import cached_property
 from typing import Optional
 
 from . import texts
@@ -20,8 +21,13 @@ class LibraryEngine:
 
     kind = "library"
 
-    def __init__(self, library, program=None) -> None:
-        self.library, self.program = library, program
+    def __init__(self, library, find_program=lambda: None) -> None:
+        self.library, self.find_program = library, find_program
+
+    @cached_property
+    def program(self):
+        """The engine over the program, which is looked for where a session is asked for."""
+        return self.find_program()
 
     def route(self, cedt: bytes, hpa: int) -> tuple:
         return self.library.route(cedt, hpa)

@@ -10,7 +10,8 @@ from .files import write_all
 from .incoming import bytes_of
 
 # Two lines that change nothing, and what each of them is always answered: where these answers stand side by side, a reply has ended.
-SENTINELS, ANSWERS = b"step\nbegin\n", [b"bad line 4 missing\n", b"bad line 5 missing\n"]
+SENTINELS, ANSWERS = b"step\nbegin\n", b"bad line 4 missing\nbad line 5 missing\n"
+BLOCK = 1 << 16  # bytes of a reply that are read at once
 NAMES = ("table", "topology", "image")
 NO_LIBRARY = ("windows, trees, decoders, all places of a broken rule and register writes are told by libcxlplan.so, which is not found: run "
               "./prove --library in the repository, or ./install, or name it in CXLPLAN_LIBRARY")
@@ -121,7 +122,7 @@ class ProgramSession:
         self.is_watched = False
         # a stop at the terminal is this process's to take
         try:
-            self.process = subprocess.Popen([engine.program, "run", *self.files.names], pass_fds=self.files.ends, start_new_session=True,
+            self.process = subprocess.Popen([engine.program, "run", *self.files.names], pass_fds=self.files.ends, start_new_session=True, bufsize=0,
                                             stdin=subprocess.PIPE, stdout=subprocess.PIPE, stderr=subprocess.DEVNULL)
         except OSError as fault:
             self.files.__exit__()
@@ -131,15 +132,13 @@ class ProgramSession:
 
     def ended(self, said: bytes):
         """What the program ended with in place of a session."""
-        said += self.process.stdout.read()
         status, text = self.process.wait(), said.decode("ascii", "backslashreplace")
         self.close()
         return texts.breach(text) if text.startswith("breach ") else texts.refusal(text) if status == 8 else fault_of(status, text)
 
     def send(self, line: bytes) -> None:
         try:
-            self.process.stdin.write(line + SENTINELS)
-            self.process.stdin.flush()
+            write_all(self.process.stdin.fileno(), line + SENTINELS)
         except BrokenPipeError:
             pass  # the program has ended; what it said is read next
 
@@ -154,14 +153,14 @@ class ProgramSession:
         return reply.decode("ascii", "backslashreplace")
 
     def reply(self) -> bytes:
-        """The lines up to the answers of the sentinels."""
-        lines: list = []
-        while lines[-2:] != ANSWERS:
-            text = self.process.stdout.readline()
-            if not text:
-                raise self.ended(b"".join(lines))
-            lines.append(text)
-        return b"".join(lines[:-2])
+        """What stands before the answers of the sentinels."""
+        said = b""
+        while not said.endswith(ANSWERS) or said[:-len(ANSWERS)][-1:] not in (b"", b"\n"):
+            part = os.read(self.process.stdout.fileno(), BLOCK)
+            if not part:
+                raise self.ended(said)
+            said += part
+        return said[:-len(ANSWERS)]
 
     def watch(self) -> None:
         """Has the words of writes told. Where nothing tells them, that is said at once."""

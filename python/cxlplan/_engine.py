@@ -68,13 +68,20 @@ def use(found) -> None:
 
 def find():
     """The library, else the program. CXLPLAN_ENGINE=program passes over the library."""
-    from ._by_program import ProgramEngine
-    name = program_file()
-    program = ProgramEngine(name) if name else None
     found = library() if os.environ.get("CXLPLAN_ENGINE") != "program" else None
     if found:
         from ._by_library import LibraryEngine
         return LibraryEngine(found, program)
-    if program is None:
+    made = program()
+    if made is None:
         raise NoEngine(HOW)
-    return program
+    return made
+
+
+def program():
+    """The engine over the program, or None where that is not found."""
+    name = program_file()
+    if name is None:
+        return None
+    from ._by_program import ProgramEngine
+    return ProgramEngine(name)

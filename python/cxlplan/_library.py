@@ -7,11 +7,13 @@ bytes, bytearray or memoryview, text as str, which is passed as UTF-8. Where the
 is made again with a larger one. The calls are proved (cxlplan.h says what of them); this module is not."""
 import ctypes
 import os
+import threading
 
 _NAME = "libcxlplan.so.1"
 _HERE = os.path.dirname(os.path.realpath(__file__))
 # Rooms that are tried one after the other, in bytes: each is freed before the next is taken.
 _FIRST_ROOM, _LAST_ROOM = 1 << 16, 1 << 31
+_kept = threading.local()
 
 # What the functions answer as status.
 DONE, USAGE, FETCH_FAULT, BAD_TABLE, BAD_TOPO, READ_FAULT, WRITE_FAULT = range(7)
@@ -87,32 +89,33 @@ def library():
 
 
 def _passed(data):
-    """Bytes as what ctypes passes for them: their address, which stays while the bytes do, and their number."""
+    """Bytes, of which ctypes passes the address, and their number."""
     if data is None:
-        return None, 0, None
+        return None, 0
     if isinstance(data, str):
         data = data.encode()
     if not isinstance(data, bytes):
         data = bytes(data)
-    return ctypes.cast(ctypes.c_char_p(data), ctypes.c_void_p), len(data), data
+    return data, len(data)
 
 
 def _answer(call, words):
     """What a call answers with a room that is large enough, or with the largest that is tried."""
-    room = _FIRST_ROOM
+    room, written = _FIRST_ROOM, ctypes.c_size_t(0)
+    out = getattr(_kept, "room", None)
+    if out is None:
+        out = _kept.room = ctypes.create_string_buffer(room)  # each thread's own, kept from call to call
     while True:
-        out, written = ctypes.create_string_buffer(room), ctypes.c_size_t(0)
         status = call(*words, out, room, ctypes.byref(written))
         if status != WRITE_FAULT or room >= _LAST_ROOM:
             return status, ctypes.string_at(out, written.value)
         del out
         room *= 8
+        out = ctypes.create_string_buffer(room)
 
 
 def _call(name, *data, more=()):
-    # the bytes are held here until the call is over
-    held = [_passed(it) for it in data]
-    words = [word for at, size, _ in held for word in (at, size)]
+    words = [word for it in data for word in _passed(it)]  # which hold the bytes until the call is over
     return _answer(getattr(library(), f"cxlplan_{name}"), [*words, *more])
 
 

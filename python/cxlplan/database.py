@@ -26,32 +26,29 @@ MADE += [f"CREATE INDEX {name}_host on {name} (host)" for name in BELOW]
 
 # ---- Rows of a verdict.
 
-def stored(value):
-    """A value as SQLite has it: numbers of 2^63 and above as hexadecimal text, and as bytes a name that is no text."""
-    if isinstance(value, int):
-        return int(value) if value < 1 << 63 else f"{value:#x}"
-    if isinstance(value, str):
-        try:
-            value.encode()
-        except UnicodeEncodeError:
-            return os.fsencode(value)
-    return value
+def stored(word: str):
+    """A text as SQLite has it: as bytes one that is no text."""
+    try:
+        word.encode()
+    except UnicodeEncodeError:
+        return os.fsencode(word)
+    return word
 
 
-def row_of(host: str, *values) -> tuple:
-    return (stored(host), *map(stored, values))
+def numbered(value):
+    """A number as SQLite has it: as hexadecimal text one of 2^63 or above."""
+    return value if value is None or value < 1 << 63 else f"{value:#x}"
 
 
 def database_rows(said: dict) -> tuple:
     """The row of a verdict in hosts, and those in the other tables, in their order."""
-    host = said["host"]
-    breaches = [row_of(host, *place.values()) for place in said["breaches"]]
-    regions = [row_of(host, *(it[name] for name in ("name", "base", "size", "window", "gran", "ways", "kind")),
-                      " ".join(slot["endpoint"] for slot in it["slots"])) for it in said["regions"]]
-    decoders = [row_of(host, *(it[name] for name in ("node", "number", "committed", "lock", "base", "size", "ways", "gran")),
-                       None if it["targets"] is None else " ".join(map(str, it["targets"])), it["skip"])
-                for it in said.get("decoders", [])]
-    head = row_of(host, said["verdict"], said["status"], said["text"], len(said["regions"]), said["stamp"])
+    host = stored(said["host"])
+    breaches = [(host, *place.values()) for place in said["breaches"]]
+    regions = [(host, it["name"], numbered(it["base"]), numbered(it["size"]), it["window"], it["gran"], it["ways"], it["kind"],
+                " ".join(slot["endpoint"] for slot in it["slots"])) for it in said["regions"]]
+    decoders = [(host, it.node, it.number, int(it.committed), int(it.lock), numbered(it.base), numbered(it.size), it.ways, it.gran,
+                 None if it.targets is None else " ".join(map(str, it.targets)), numbered(it.skip)) for it in said.get("decoders", [])]
+    head = (host, said["verdict"], said["status"], stored(said["text"]), len(said["regions"]), said["stamp"])
     return (*head, digest_of_rows(head, breaches, regions, decoders)), breaches, regions, decoders
 
 

@@ -1,7 +1,7 @@
 """Files that are written whole or not at all, and never over another file. Nothing is left beside them, whenever the work is stopped."""
 
 import os
-from tempfile import NamedTemporaryFile
+from typing import Any
 
 from .errors import BadFile
 from .incoming import why_not
@@ -39,10 +39,11 @@ class Nameless:
     """An open file in a folder that has no name yet. Where the system has none such, it has a name of its own until it gets another."""
 
     def __init__(self, folder: str) -> None:
-        self.named = None
+        self.named: Any = None
         try:
             self.end = os.open(folder, os.O_TMPFILE | os.O_RDWR | os.O_CLOEXEC, 0o666)
         except (AttributeError, OSError):
+            from tempfile import NamedTemporaryFile
             self.named = NamedTemporaryFile(prefix=".cxlplan-", dir=folder)  # pylint: disable=consider-using-with
             self.end = os.dup(self.named.fileno())
             os.fchmod(self.end, 0o666 & ~mask())

@@ -7,6 +7,7 @@ import errno
 import fcntl
 import json
 import os
+import stat
 from hashlib import blake2b
 from typing import Callable, Iterable, Iterator
 
@@ -69,16 +70,30 @@ def below(place: str) -> Iterator[tuple]:
 def stamp_of(folder: str) -> int:
     """A number that is another one where a file of a host is another, or was written or changed since: of their sizes, places on the disk,
     and times, also that of their last change, which nobody sets. 0 where none of the files is there."""
-    marks = []
-    for name in FILES:
-        try:
-            it = os.stat(os.path.join(folder, name))
-            marks.append((it.st_size, it.st_mtime_ns, it.st_ctime_ns, it.st_ino, it.st_mode))
-        except (OSError, ValueError) as fault:
-            marks.append((getattr(fault, "errno", None) or 0,))
-    if all(it in ((errno.ENOENT,), (errno.ENOTDIR,)) for it in marks):
+    return looked_at(folder)[0]
+
+
+def looked_at(folder: str) -> tuple:
+    """The stamp of a host, and of each of its files what is in its place; 0 where that cannot be seen."""
+    marks: list = []
+    modes = [mode_of(f"{folder}/{name}", marks) for name in FILES]
+    is_gone = not any(modes) and all(it in (errno.ENOENT, errno.ENOTDIR) for it in marks)
+    return 0 if is_gone else digest_of(repr(marks).encode()), modes
+
+
+def mode_of(path: str, marks: list) -> int:
+    """What is in a place, and behind `marks` what tells it from another: of a link also what it leads to."""
+    try:
+        it = os.lstat(path)
+        marks += (it.st_size, it.st_mtime_ns, it.st_ctime_ns, it.st_ino, it.st_mode)
+        if not stat.S_ISLNK(it.st_mode):
+            return it.st_mode
+        other = os.stat(path)
+        marks += (other.st_size, other.st_mtime_ns, other.st_ctime_ns, other.st_ino, other.st_mode)
+        return it.st_mode
+    except (OSError, ValueError) as fault:
+        marks.append(getattr(fault, "errno", None) or 0)
         return 0
-    return digest_of(repr(marks).encode())
 
 
 def digest_of(data: bytes) -> int:
@@ -91,10 +106,18 @@ def digest_of(data: bytes) -> int:
 def judge(folder: str, decoders: bool = False) -> dict:
     """What is to be said of the host in a folder: `verdict` is sound, breach or fault. Of its decoders those are told that are committed,
     or were to be."""
-    said = {"schema": SCHEMA, "host": folder, "verdict": "fault", "status": 2, "text": "", "regions": [], "breaches": [],
-            "stamp": stamp_of(folder)}
+    said = facts_of(folder, decoders)
+    if "decoders" in said:
+        said["decoders"] = [it.as_dict() for it in said["decoders"]]
+    return said
+
+
+def facts_of(folder: str, decoders: bool) -> dict:
+    """The same, with decoders as facts."""
+    stamp, modes = looked_at(folder)
+    said = {"schema": SCHEMA, "host": folder, "verdict": "fault", "status": 2, "text": "", "regions": [], "breaches": [], "stamp": stamp}
     try:
-        files = [read_within(folder, name) for name in FILES]
+        files = [read_within(folder, name, mode=mode) for name, mode in zip(FILES, modes)]
         status, data = engine().check(*files)
         text = data.decode("ascii", "replace")
         said["status"] = status
@@ -106,7 +129,7 @@ def judge(folder: str, decoders: bool = False) -> dict:
         else:
             raise fault_of(status, text)
         if decoders:
-            said["decoders"] = [it.as_dict() for it in engine().decoders(*files, only_used=True)]
+            said["decoders"] = engine().decoders(*files, only_used=True)
     except NoEngine:
         raise  # it is none of this host
     except CxlError as fault:

@@ -14,15 +14,23 @@ def found_at(host, place: Place, decoder: Decoder) -> str:
 
 def dealt(host, decoder: Decoder) -> str:
     """Ways and granularity, and those of others of the range."""
-    others = sorted({(it.ways, it.gran) for it in host.same_range(decoder) if it.node != decoder.node and alike(host, it, decoder)},
-                    key=str)
+    own, kind = (decoder.ways, decoder.gran), host.node(decoder.node).kind
+    counts = pairs_of(host, decoder.range).get(kind, {})
+    others = sorted((pair for pair, count in counts.items() if pair != own or count > decoder.committed), key=str)
     beside = " or ".join(f"{ways_words(*it)}" for it in others)
-    text = f"it has {ways_words(decoder.ways, decoder.gran)}"
-    return text + (f", and others of its kind in the range have {beside}" if others and others != [(decoder.ways, decoder.gran)] else "")
+    text = f"it has {ways_words(*own)}"
+    return text + (f", and others of its kind in the range have {beside}" if others and others != [own] else "")
 
 
-def alike(host, one: Decoder, other: Decoder) -> bool:
-    return host.node(one.node).kind == host.node(other.node).kind
+def pairs_of(host, wanted: tuple) -> dict:
+    """By a kind of node how many decoders of a range have which ways and granularity; worked out once a range."""
+    known = host.__dict__.setdefault("_pairs", {})
+    if wanted not in known:
+        found = known[wanted] = {}
+        for it in host.ranges.get(wanted, []):
+            counts = found.setdefault(host.node(it.node).kind, {})
+            counts[it.ways, it.gran] = counts.get((it.ways, it.gran), 0) + 1
+    return known[wanted]
 
 
 def ways_words(ways, gran) -> str:
@@ -32,7 +40,7 @@ def ways_words(ways, gran) -> str:
 
 
 def hole(host, decoder: Decoder) -> str:
-    before = next((it for it in host.decoders if it.node == decoder.node and it.number < decoder.number and not it.committed), None)
+    before = next((it for it in host.blocks[decoder.node][:decoder.number] if not it.committed), None)
     if before:
         return f"it is committed, and decoder {before.number} before it is not"
     return "it is committed, and the endpoint does not decode: bit 1 of its global control is clear"
@@ -67,14 +75,14 @@ def range_of(host, decoder: Decoder) -> str:
 
 
 def order(host, decoder: Decoder) -> str:
-    before = next(it for it in host.decoders if (it.node, it.number) == (decoder.node, decoder.number - 1))
+    before = host.blocks[decoder.node][decoder.number - 1]
     return f"it starts at {decoder.base:#x}, and decoder {before.number} before it ends at {before.end:#x}"
 
 
 def share(host, decoder: Decoder) -> str:
     node = host.node(decoder.node)
     rows = [f"decoder {it.number} skips {it.skip:#x} and takes a share of {it.size:#x} bytes by {it.ways} ways"
-            for it in host.decoders if it.node == node.name and it.number <= decoder.number]
+            for it in host.blocks[node.name][:decoder.number + 1]]
     return f"{node.name} has {node.ram:#x} bytes of ram and then {node.pmem:#x} of pmem; " + ", ".join(rows)
 
 
@@ -94,8 +102,7 @@ def targets(host, decoder: Decoder) -> str:
     """Where each entry of a port's list leads, and which targets of the window have nothing of the range."""
     if decoder.targets is None:
         return dealt(host, decoder)
-    has, said = {it.node for it in host.same_range(decoder)}, []
-    below = {node.port: node for node in host.nodes if node.parent == decoder.node}
+    has, said, below = host.ranges_by_node.get(decoder.range, {}), [], host.below.get(decoder.node, {})
     for entry, port in enumerate(decoder.targets):
         node = below.get(port)
         what = "nothing" if node is None else node.name + (
@@ -104,10 +111,10 @@ def targets(host, decoder: Decoder) -> str:
     return "; ".join(said + lacking(host, decoder, has))
 
 
-def lacking(host, decoder: Decoder, has: set) -> list:
+def lacking(host, decoder: Decoder, has: dict) -> list:
     """Which bridges of the window have no decoder of a range."""
     window = next((it for it in host.windows if it.is_usable and it.base <= decoder.base < it.end), None)
-    bridges = [node for node in host.nodes if window and node.kind == "bridge" and node.uid in window.targets]
+    bridges = [node for node in host.below.get(None, {}).values() if window and node.uid in window.targets]
     return [f"{node.name}, also a target of window {window.number}, has no decoder of the range" for node in bridges
             if node.name not in has and not node.passthrough]
 
@@ -116,7 +123,7 @@ def unreached(host, decoder: Decoder) -> str:
     node = host.node(decoder.node)
     if node.kind == "bridge":
         return f"its range is {decoder.base:#x} to {decoder.end:#x}, and no window with its bridge sends all of that here"
-    above = next((it for it in host.same_range(decoder) if it.node == node.parent), None)
+    above = host.ranges_by_node.get(decoder.range, {}).get(node.parent)
     if above is None:
         passes = ", which passes on," if host.node(node.parent).passthrough else ""
         return f"{node.parent} above it{passes} has no committed decoder of the range {decoder.base:#x} to {decoder.end:#x}"

@@ -106,10 +106,21 @@ class Host:
         """Each Node: bridges, switches, endpoints."""
         return engine().tree(*self._bytes)
 
+    @cached_property
+    def _named(self) -> dict:
+        return {node.name: node for node in self.nodes}
+
     def node(self, name: str) -> Node:
-        found = next((node for node in self.nodes if node.name == name), None)
-        if found is None:
+        if name not in self._named:
             raise Refusal(f"no such node {name}", "no such node", name)
+        return self._named[name]
+
+    @cached_property
+    def below(self) -> dict:
+        """By the name of a bridge or switch what hangs on each of its ports."""
+        found: dict = {}
+        for node in self.nodes:
+            found.setdefault(node.parent, {})[node.port] = node
         return found
 
     @property
@@ -125,6 +136,28 @@ class Host:
     def decoders(self) -> list:
         """Each Decoder of the image, whether it is sound or not; none without an image."""
         return engine().decoders(*self._bytes, self.registers) if self.image else []
+
+    @cached_property
+    def blocks(self) -> dict:
+        """By the name of a node its decoders, in their order."""
+        found: dict = {}
+        for decoder in self.decoders:
+            found.setdefault(decoder.node, []).append(decoder)
+        return found
+
+    @cached_property
+    def ranges(self) -> dict:
+        """By base and size the committed decoders of that range, in the order of the topology."""
+        found: dict = {}
+        for decoder in self.decoders:
+            if decoder.committed:
+                found.setdefault(decoder.range, []).append(decoder)
+        return found
+
+    @cached_property
+    def ranges_by_node(self) -> dict:
+        """By base and size, and then by the name of a node, its first committed decoder of that range."""
+        return {key: {it.node: it for it in reversed(decoders)} for key, decoders in self.ranges.items()}
 
     # ---- Whether it is sound.
 
@@ -194,7 +227,7 @@ class Host:
 
     def same_range(self, decoder: Decoder) -> list:
         """The committed decoders of the same range, in the order of the topology."""
-        return [other for other in self.decoders if other.committed and other.range == decoder.range]
+        return self.ranges.get(decoder.range, [])
 
 
 __all__ = ["Host", "Image", "Table", "Topology", "CxlError", "Region"]

@@ -14,6 +14,7 @@ from .errors import BadFile, BadWords
 MOST_BYTES = 1 << 20  # of a table, a topology or an image
 MOST_TEXT = 1 << 26  # of a text that is edited, or a file of poison lists
 FILES = ("table.cedt", "topo.toml", "image.bin")  # of a folder that cxl-capture made
+BLOCK = 1 << 14  # bytes that are read at once
 LARGEST = (1 << 64) - 1
 UNITS = {"K": 10, "M": 20, "G": 30, "T": 40}
 NUMBER = re.compile("0x[0-9A-Fa-f]+|[0-9]+")
@@ -114,16 +115,16 @@ def kind_of(mode: int) -> str:
     return next((words for is_such, words in KINDS if is_such(mode)), "is no file")
 
 
-def up_to(end: int, name: str, most: int) -> bytes:
-    """What an open file holds, which may be so many bytes at the most."""
-    size = os.fstat(end).st_size
+def up_to(end: int, name: str, most: int, is_plain: bool = False) -> bytes:
+    """What an open file holds, which may be so many bytes at the most. A plain file gives all that is asked, or ends."""
     parts, left = [], most + 1
     while left > 0:
-        part = os.read(end, min(left, size + 1 if 0 < size < most else 1 << 16))
-        if not part:
-            break
+        asked = min(left, BLOCK)
+        part = os.read(end, asked)
         parts.append(part)
         left -= len(part)
+        if not part or is_plain and len(part) < asked:
+            break
     if left <= 0:
         raise BadFile(f"{name}: more than {most} bytes", 12, "too large", name)
     return b"".join(parts)
@@ -145,11 +146,12 @@ def read_file(name: str, most: int = MOST_BYTES) -> bytes:
         raise BadFile(f"{name}: {why_not(fault)}", 2, "cannot read", name) from None
 
 
-def read_within(folder: str, name: str, most: int = MOST_BYTES) -> bytes:
-    """The bytes of a file of a host's folder: of a plain one, or of a link to one that is in the folder, too. Nothing is waited for."""
-    path = os.path.join(folder, name)
+def read_within(folder: str, name: str, most: int = MOST_BYTES, mode: int = 0) -> bytes:
+    """The bytes of a file of a host's folder: of a plain one, or of a link to one that is in the folder, too. Nothing is waited for. What
+    is in its place is looked at where `mode` does not say it."""
+    path = f"{folder}/{name}"
     try:
-        mode = os.lstat(path).st_mode
+        mode = mode or os.lstat(path).st_mode
         at = within(folder, path) if stat.S_ISLNK(mode) else path
         if at != path:
             mode = os.lstat(at).st_mode
@@ -157,7 +159,7 @@ def read_within(folder: str, name: str, most: int = MOST_BYTES) -> bytes:
             raise BadFile(f"{path}: {kind_of(mode)}", 2, "cannot read", path)
         end = os.open(at, os.O_RDONLY | os.O_CLOEXEC | os.O_NOCTTY | os.O_NONBLOCK | os.O_NOFOLLOW)
         try:
-            return up_to(end, path, most)
+            return up_to(end, path, most, True)
         finally:
             os.close(end)
     except (OSError, ValueError) as fault:

@@ -108,13 +108,12 @@ def node(words: list) -> Node:
                 number(said.get("pmem", "0")))
 
 
-USED = (" commit 1 ", " committed 1 ", " error 1 ")  # in the line of a decoder that is committed, or was to be
+IDLE = " commit 0 committed 0 error 0 "  # in the line of a decoder that is not committed, and was not to be
 
 
 def decoders(text: str, only_used: bool = False) -> list:
     """Lines `decoder NODE I ..`; those of blocks are passed over. Of an idle decoder nothing is told where only used ones are wanted."""
-    return [decoder(line) for line in lines_of(text)
-            if line.startswith("decoder ") and (not only_used or any(word in line for word in USED))]
+    return [decoder(line) for line in lines_of(text) if line.startswith("decoder ") and not (only_used and IDLE in line)]
 
 
 def controls(text: str) -> dict:
@@ -129,8 +128,8 @@ def decoder(line: str) -> Decoder:
     ways, gran, said = int(parts[at + 1]), int(parts[at + 2]), pairs(parts[3:at] + parts[at + 3:])
     return Decoder(parts[1], int(parts[2]), said["committed"] == "1", said["commit"] == "1", said["error"] == "1", said["lock"] == "1",
                    said["host-only"] == "1", int(said["base"], 16), int(said["size"], 16), int(said["ways"]) if ways in WAYS_CODES else None,
-                   int(said["gran"]) if gran in GRAN_CODES else None, numbers(said["targets"])[:8] if "targets" in said else None,
-                   int(said["skip"], 16) if "skip" in said else None, tuple(int(word, 16) for word in words.split(" ")[:7]))
+                   int(said["gran"]) if gran in GRAN_CODES else None, tuple(map(int, said["targets"].split(",")[:8])) if "targets" in said else None,
+                   int(said["skip"], 16) if "skip" in said else None, tuple([int(word, 16) for word in words.split(" ")[:7]]))
 
 
 # ---- Regions.
@@ -221,9 +220,9 @@ def poison(text: str) -> tuple:
     for line in lines:
         parts = line.split(" ")
         if parts[0] == "record":
-            records_found.append([words[1], number(parts[1]), int(parts[3]), parts[5], [], 0])
+            records_found.append([words[1], int(parts[1], 16), int(parts[3]), parts[5], [], 0])
         elif parts[0] == "run":
-            records_found[-1][4].append(Piece(parts[4], number(parts[1]), int(parts[2])))
+            records_found[-1][4].append(Piece(parts[4], int(parts[1], 16), int(parts[2])))
         elif parts[0] == "wide":
             records_found[-1][4].append(Piece(parts[5], number(parts[1]), None, number(parts[2]), int(parts[3])))
         elif parts[0] == "unmapped":

@@ -9,14 +9,14 @@ from concurrent.futures.process import BrokenProcessPool
 from typing import Callable, Iterator
 
 from .errors import CxlError
-from .fleet import judge, not_judged
+from .fleet import facts_of, not_judged
 
 
 def judge_all(share: list, decoders: bool, row: Callable) -> list:
     """A worker's share: of each host its verdict, and what is kept of it."""
     found = []
     for folder, why in share:
-        said = not_judged(folder, why) if why else judge(folder, decoders)
+        said = not_judged(folder, why) if why else facts_of(folder, decoders)
         found.append((said["verdict"], row(said)))
     return found
 

@@ -3,8 +3,8 @@
 import os
 import sys
 from dataclasses import dataclass, field
+from typing import Callable
 
-from ..facts import plain
 from ..incoming import printable
 
 SCHEMA = "cxldesk/1"  # of python/cxlplan/schema.json; the number rises where a field changes its meaning or goes
@@ -59,11 +59,18 @@ class Answer:
             self.parts.append((kind, rows))
         return self
 
+    def either(self, lines: list, aligned: Callable) -> "Answer":
+        """Many lines, which at a terminal are another answer's tables."""
+        self.parts.append((lines, aligned))
+        return self
+
     def text(self, aligned: bool) -> str:
         lines: list = []
         for part in self.parts:
             if isinstance(part, str):
                 lines.append(part)
+            elif callable(part[1]):
+                lines += part[1]().text(True).split("\n")[:-1] if aligned else part[0]
             elif aligned:
                 lines += ([""] if lines and lines[-1] else []) + table_lines(*part) + [""]
             else:
@@ -146,6 +153,11 @@ def complain(text: str) -> None:
         pass  # there is nobody left to tell
 
 
+def as_plain(fact):
+    """A fact, or what is told late, as JSON has it."""
+    return fact.as_dict()
+
+
 def as_json(command: str, facts: dict) -> str:
     import json
-    return json.dumps({"schema": SCHEMA, "command": command, **facts}, indent=1, default=plain) + "\n"
+    return json.dumps({"schema": SCHEMA, "command": command, **facts}, indent=1, default=as_plain) + "\n"

@@ -5,10 +5,9 @@ from typing import Optional
 from ..errors import BadImage, BadTable, BadTopology, CxlError, NoEngine, Refusal
 from ..host import Host
 from ..incoming import AMOUNT, NUMBER, number, quoted
-from ..planning import GRAIN
 from .output import size_words
 
-KINDS = ("ram", "pmem")
+KINDS, GRAIN = ("ram", "pmem"), 256 << 20  # bytes, of which sizes are multiples
 HEADS = ((b"CEDT", "a table"), (b"CXLHDM01", "an image"))  # how files begin
 
 

@@ -82,16 +82,36 @@ def poison_answer(session, host: Host, endpoint: str, data: bytes, is_range: boo
     if is_range and not records[0].pieces and records[0].unmapped:
         raise Refusal("unmapped", "unmapped")
     answered = Answer({"host": host.name, "poison": records, "flags": flags})
-    for record in records:
-        if not is_range:
-            answered.rows("record", [{"_endpoint": endpoint, "record": Hex(record.dpa), "length": record.length, "source": record.source}])
-        answered.rows("run", [{"_hpa": Hex(it.hpa), "length": it.length, "last": it.last and Hex(it.last),
-                               "runs": it.runs if it.last else None, "region": it.region} for it in record.pieces])
-        if record.unmapped:
-            answered.line(f"unmapped {record.unmapped}")
+    answered.either(poison_lines(endpoint, records, is_range), lambda: add_poison(Answer({}), endpoint, records, is_range))
     for said in flags:
         answered.line(f"flags {said}")
     return answered
+
+
+def poison_lines(endpoint: str, records: list, is_range: bool) -> list:
+    """Records and their runs as lines of words."""
+    lines: list = []
+    for record in records:
+        if not is_range:
+            lines.append(f"record {endpoint} {record.dpa:#x} length {record.length} source {record.source}")
+        for it in record.pieces:
+            lines.append(f"run {it.hpa:#x} length {it.length} region {it.region}" if it.last is None else
+                         f"run {it.hpa:#x} last {it.last:#x} runs {it.runs} region {it.region}")
+        if record.unmapped:
+            lines.append(f"unmapped {record.unmapped}")
+    return lines
+
+
+def add_poison(said: Answer, endpoint: str, records: list, is_range: bool) -> Answer:
+    """The same as tables."""
+    for record in records:
+        if not is_range:
+            said.rows("record", [{"_endpoint": endpoint, "record": Hex(record.dpa), "length": record.length, "source": record.source}])
+        said.rows("run", [{"_hpa": Hex(it.hpa), "length": it.length, "last": None if it.last is None else Hex(it.last),
+                           "runs": it.runs if it.last else None, "region": it.region} for it in record.pieces])
+        if record.unmapped:
+            said.line(f"unmapped {record.unmapped}")
+    return said
 
 
 def payloads(data: bytes):

@@ -42,16 +42,17 @@ def verdict_part(host) -> str:
                 "device byte serves two regions.</div>")
     wants, why, advice = RULES[host.breach.rule]
     places = [place_facts(host, place) for place in host.places()]
+    broken = {(it["node"], it["decoder"]) for it in places}
     found = "".join(f"<li>Decoder {it['decoder']} of <b>{html.escape(it['node'])}</b>: {html.escape(it['found'])}.</li>" for it in places)
-    tables = "".join(range_part(host, it) for it in {it["range"] for it in places if it["range"]})
+    tables = "".join(range_part(host, it, broken) for it in dict.fromkeys(it["range"] for it in places if it["range"]))
     return (f"<div class='verdict broken'><b>{html.escape(host.breach.text)}</b><ul>{found}</ul><p>{host.breach.rule} wants: {wants}.</p>"
             f"<p>Else: {why}.</p><p>To do: {advice}.</p></div>{tables}")
 
 
-def range_part(host, wanted: tuple) -> str:
+def range_part(host, wanted: tuple, broken: set) -> str:
     """The decoders of a range beside each other, with those that are broken or differ marked."""
-    beside = [it for it in host.decoders if it.committed and it.range == wanted]
-    odd = {(it.node, it.number) for it in odd_ones(beside, host)} | {(it.node, it.decoder) for it in host.places()}
+    beside = host.ranges.get(wanted, [])
+    odd = {(it.node, it.number) for it in odd_ones(beside, host)} | broken
     return (f"<p>The decoders of <code>{wanted[0]:#x}</code> to <code>{wanted[0] + wanted[1]:#x}</code>:</p>"
             + decoder_table(beside, odd)) if beside else ""
 
