@@ -117,10 +117,10 @@ class Host:
 
     @cached_property
     def below(self) -> dict:
-        """By the name of a bridge or switch what hangs on each of its ports."""
+        """By the name of a bridge or switch what hangs on each of its ports; by None the bridges, by their names."""
         found: dict = {}
         for node in self.nodes:
-            found.setdefault(node.parent, {})[node.port] = node
+            found.setdefault(node.parent, {})[node.name if node.parent is None else node.port] = node
         return found
 
     @property

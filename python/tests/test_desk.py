@@ -127,8 +127,8 @@ class Asked(Case):
         idle = self.file("idle", image_of(host, "".join(f"decoder {name} 0\n" for name in ("hb16", "hb32", "d1", "d2", "d3", "d4"))))
         held = "committed no -> yes commit no -> yes base none -> 0x110000000 size none -> 0x40000000"
         text = said("diff", *FOUR[:2], idle, *FOUR)[1]
-        self.assertIn(f"~ decoder hb16 0 {held} ways none -> 2 gran none -> 512 targets none -> 0,1 lock none -> yes host_only none -> yes\n", text)
-        self.assertIn(f"~ decoder d4 0 {held} ways none -> 4 gran none -> 256 skip none -> 0 lock none -> yes host_only none -> yes\n", text)
+        self.assertIn(f"~ decoder hb16 0 {held} ways none -> 2 gran none -> 512 targets none -> 0,1\n", text)
+        self.assertIn(f"~ decoder d4 0 {held} ways none -> 4 gran none -> 256 skip none -> 0\n", text)
         self.assertIn("+ region 0x110000000 size 0x40000000 window 0 gran 256 ways 4 kind pmem slots d1:0x0,d2:0x0,d3:0x0,d4:0x0\n", text)
         text = said("diff", self.captured("x4-pass-switch"), *FOUR)[1]
         self.assertIn("- node port3 kind switch parent hb32 port 0 decoders 4 targets 8 low yes high yes passthrough no ram 0 pmem 0\n", text)

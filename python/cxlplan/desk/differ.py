@@ -84,7 +84,7 @@ def held(fact) -> dict:
             if not isinstance(fact, Decoder) or fact.committed or name not in RANGE}
 
 
-RANGE = ("base", "size", "ways", "gran", "targets", "skip", "lock", "host_only")  # what a committed decoder holds
+RANGE = ("base", "size", "ways", "gran", "targets", "skip")  # what a committed decoder holds
 
 
 def looked_at(was, now) -> list:
@@ -102,7 +102,7 @@ def looked_at(was, now) -> list:
 def whole(fact) -> list:
     """The fields by which a fact is told alone: of an idle decoder none."""
     if isinstance(fact, Decoder):
-        return ["committed", *RANGE] if fact.committed else []
+        return ["committed", *RANGE, "lock", "host_only"] if fact.committed else []
     return [it.name for it in fields(fact) if it.name not in ("name", "number") and (not isinstance(fact, Region) or it.name != "base")]
 
 
