@@ -196,7 +196,7 @@ class Texts(Case):
             1, "", f"cxl-regions: {none}: No such file or directory\n"))
         out = os.path.join(self.place, "out")
         fault = OSError(30, "Read-only file system", os.path.join(self.place, ".cxl-regions-1"))
-        with mock.patch.object(files, "TemporaryDirectory", side_effect=fault):
+        with mock.patch.object(files, "Nameless", side_effect=fault):
             self.assertEqual(self.said("--image", out, *FOUR, reply), (
                 1, "", f"cxl-regions: {out}: Read-only file system\n"))
         self.assertEqual(os.listdir(self.place), ["reply"])

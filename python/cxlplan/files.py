@@ -11,17 +11,22 @@ def write_new(file: str, data: bytes) -> None:
     """Makes a file: without a name at first, and it gets its name when it is whole."""
     if os.path.lexists(file):
         raise there_already(file)
-    beside = os.path.dirname(os.path.abspath(file))
-    if not os.path.isdir(beside):
-        raise BadFile(f"{file}: there is no folder {beside}", 1, "no folder", file)
     try:
-        with Nameless(beside) as made:
+        with Nameless(os.path.dirname(os.path.abspath(file))) as made:
             write_all(made.end, data)
             made.name(file)
     except FileExistsError:
         raise there_already(file) from None
     except (OSError, ValueError) as fault:
         raise BadFile(f"{file}: {why_not(fault)}", 1, "cannot write", file) from None
+
+
+def write_beside(file: str, data: bytes) -> None:
+    """The same; a folder that is not there is named."""
+    beside = os.path.dirname(os.path.abspath(file))
+    if not os.path.isdir(beside):
+        raise BadFile(f"{file}: there is no folder {beside}", 1, "no folder", file)
+    write_new(file, data)
 
 
 def there_already(file: str) -> BadFile:

@@ -2,7 +2,7 @@
 
 from ..editing import image_of, image_text, table_of, table_text
 from ..errors import BadWords
-from ..files import write_new
+from ..files import write_beside
 from ..host import Host, Table
 from ..incoming import MOST_TEXT, read_file
 from .output import Answer
@@ -64,5 +64,5 @@ def text_of(file: str) -> str:
 def kept(options, made: bytes, said: Answer) -> Answer:
     if options.to is None:
         raise BadWords("--from wants --to FILE, the file to make", 1, "usage")
-    write_new(options.to, made)
+    write_beside(options.to, made)
     return said

@@ -2,7 +2,7 @@
 
 from ..errors import BadWords, Refusal
 from ..explain import reason_words, refusal_words
-from ..files import write_new
+from ..files import write_beside
 from ..facts import Planned, Released
 from ..host import Host
 from ..incoming import in_bytes
@@ -41,7 +41,7 @@ def answer(options) -> Answer:
 
 def made(host: Host, line: str, options) -> Answer:
     if options.image is not None:
-        write_new(options.image, image_with(host, line))
+        write_beside(options.image, image_with(host, line))
         return Answer({"host": host.name, "image": options.image})
     wants_writes = options.register_writes or options.c or options.csv
     found = plan(host, line, wants_writes)

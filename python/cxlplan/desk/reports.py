@@ -3,7 +3,7 @@
 import os
 
 from ..errors import BadWords
-from ..files import write_new
+from ..files import write_beside
 from ..incoming import text_within
 from ..report import page_of
 from .output import Answer
@@ -20,7 +20,7 @@ def answer(options) -> Answer:
     if len(rest) != 1:
         raise BadWords("wanted are HOST and OUT.html, the page to make; see cxldesk report --help", 1, "usage")
     page = page_of(host, inferred_of(host.name))
-    write_new(rest[0], page.encode())
+    write_beside(rest[0], page.encode())
     return Answer({"host": host.name, "page": rest[0], "bytes": len(page.encode())})
 
 
