@@ -318,6 +318,24 @@ class Library(unittest.TestCase):
             ran = subprocess.run([*words, what, *HOST[:2]], stdout=subprocess.PIPE, stderr=subprocess.STDOUT, timeout=SECONDS, check=False)
             self.assertEqual((ran.returncode, ran.stdout), (0, b""), what)
 
+    def test_python_sessions(self):
+        """Line by line as the program, with the words of the last line and the image behind it; and what no session opens on."""
+        for row in self.scripts():
+            files = [read(it) for it in row[1:]]
+            image = files[3] if len(files) > 3 else None
+            try:
+                with _library.Session(*files[:2], image) as session:
+                    found = [session.act(line) for line in files[2].splitlines(keepends=True)]
+                    ended = next((status for status, _ in found if status), 0)
+                    told_words = b"".join(b"w %d %#x %#x\n" % word for word in session.words())
+                    if files[2] and not ended:
+                        self.assertEqual(_library.words(*files[:2], files[2], image), (0, told_words))
+                    self.assertEqual(session.image(), _library.image(*files[:2], files[2], image))
+                self.assertEqual(session.act("show r0\n"), (1, b""))
+            except _library.Unopened as fault:
+                ended, found = fault.status, [(fault.status, fault.text)]
+            self.compare(row, (ended, b"".join(text for _, text in found)))
+
     def test_rust(self):
         if not shutil.which("rustc"):
             self.skipTest("there is no Rust compiler here")
@@ -350,10 +368,9 @@ class Library(unittest.TestCase):
         self.assertEqual(subprocess.run([made], check=False).returncode, 6)
 
     def test_names(self):
-        """Header, shared library and Python module have the same calls, but for those on sessions, which Python has not, and the
-        library shows no other name."""
+        """Header, shared library and Python module have the same calls, and the library shows no other name."""
         declared = set(re.findall(r"^int (cxlplan_\w+)\(", read(f"{TOP}/library/cxlplan.h").decode(), re.M))
-        self.assertEqual({it for it in declared if not it.startswith("cxlplan_session_")}, {f"cxlplan_{it}" for it in _library._TAKES})
+        self.assertEqual(declared, {f"cxlplan_{it}" for it in (*_library._TAKES, *_library._ON_SESSION)})
         if shutil.which("nm"):
             said = subprocess.run(["nm", "-D", "--defined-only", SHARED], stdout=subprocess.PIPE, check=True).stdout.decode()
             self.assertEqual({line.split()[-1] for line in said.splitlines()}, declared)

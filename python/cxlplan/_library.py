@@ -19,8 +19,22 @@ _kept = threading.local()
 DONE, USAGE, FETCH_FAULT, BAD_TABLE, BAD_TOPO, READ_FAULT, WRITE_FAULT = range(7)
 BUS_FAULT, REFUSED, NO_MEMORY, BAD_IMAGE, TOO_MUCH, TOO_LARGE = range(7, 13)
 
+
+
+class Word(ctypes.Structure):
+    """A register word that a session sent: the number of its node, where it stands in the node's block in bytes, and its value."""
+    _fields_ = [("node", ctypes.c_uint32), ("offset", ctypes.c_uint32), ("value", ctypes.c_uint32)]
+
+
+class _Handle(ctypes.Structure):
+    """A session's handle, which begins null."""
+    _fields_ = [("held", ctypes.c_void_p)]
+
+
 _BYTES = [ctypes.c_void_p, ctypes.c_size_t]
 _ROOM = [ctypes.c_void_p, ctypes.c_size_t, ctypes.POINTER(ctypes.c_size_t)]
+_ROWS = [ctypes.POINTER(Word), ctypes.c_size_t, ctypes.POINTER(ctypes.c_size_t)]
+_SESSION = ctypes.POINTER(_Handle)
 # What each function of the header takes before the room.
 _TAKES = {
     "route": [*_BYTES, ctypes.c_uint64],
@@ -37,6 +51,14 @@ _TAKES = {
     "windows": _BYTES * 2,
     "gen": [ctypes.c_uint32],
     "version": [],
+}
+# What each function on a session takes, in all.
+_ON_SESSION = {
+    "session_open": [_SESSION, *_BYTES, *_BYTES, *_BYTES, *_ROOM],
+    "session_act": [_SESSION, *_BYTES, *_ROOM],
+    "session_words": [_SESSION, *_ROWS],
+    "session_image": [_SESSION, *_ROOM],
+    "session_close": [_SESSION],
 }
 
 
@@ -68,12 +90,12 @@ def _load():
         except OSError as fault:
             said.append(str(fault))
             continue
-        for name, takes in _TAKES.items():
+        for name, takes in {**{name: [*takes, *_ROOM] for name, takes in _TAKES.items()}, **_ON_SESSION}.items():
             try:
                 call = getattr(found, f"cxlplan_{name}")
             except AttributeError:
                 raise LibraryMissing(f"{place} has no cxlplan_{name}") from None
-            call.argtypes, call.restype = [*takes, *_ROOM], ctypes.c_int
+            call.argtypes, call.restype = takes, ctypes.c_int
         return found
     raise LibraryMissing("; ".join(said) or f"there is no {_NAME} at {', '.join(places())}")
 
@@ -194,3 +216,59 @@ def gen(number):
 def version():
     """The version, as a line."""
     return _call("version")
+
+
+class Unopened(Exception):
+    """No session opens over these files. `status` and `text` say why, as `run` does."""
+
+    def __init__(self, status, text):
+        super().__init__(text.decode(errors="replace").strip() or f"status {status}")
+        self.status, self.text = status, text
+
+
+class Session:
+    """A session that is opened once and asked often, on the host after reset, or with the registers of an image. It closes at the end
+    of a `with`, or by `close`. One call at a time may use it, from any thread."""
+
+    def __init__(self, cedt, topo, image=None, room=1 << 20):  # pylint: disable=redefined-outer-name
+        """`room` is how many bytes the answer to one call of `act` may have."""
+        self._handle, self._room, self._size = _Handle(None), ctypes.create_string_buffer(room), room
+        held = [_passed(it) for it in (cedt, topo, image)]
+        status, text = self._answer("session_open", *(word for at, size, _ in held for word in (at, size)))
+        if status != DONE:
+            raise Unopened(status, text)
+
+    def __enter__(self):
+        return self
+
+    def __exit__(self, *_):
+        self.close()
+
+    def _answer(self, name, *words):
+        written = ctypes.c_size_t(0)
+        status = getattr(library(), f"cxlplan_{name}")(ctypes.byref(self._handle), *words, self._room, self._size, ctypes.byref(written))
+        return status, self._room[:written.value]
+
+    def act(self, lines):
+        """What lines are answered, one or more, as `run` answers them. With status 6 the lines up to the answer that is cut are carried
+        out, and none behind it."""
+        at, size, held = _passed(lines)
+        answer = self._answer("session_act", at, size)
+        del held  # until here it kept the bytes
+        return answer
+
+    def words(self):
+        """The register words that the last call of `act` sent, or opening it where there was none, in their order."""
+        count = ctypes.c_size_t(0)
+        library().cxlplan_session_words(ctypes.byref(self._handle), None, 0, ctypes.byref(count))
+        rows = (Word * count.value)()
+        library().cxlplan_session_words(ctypes.byref(self._handle), rows, count.value, ctypes.byref(count))
+        return [(it.node, it.offset, it.value) for it in rows]
+
+    def image(self):
+        """The register image as it is, as the bytes of its file."""
+        return self._answer("session_image")
+
+    def close(self):
+        """Closes it. A call behind that answers status 1."""
+        library().cxlplan_session_close(ctypes.byref(self._handle))
