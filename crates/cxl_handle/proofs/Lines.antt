@@ -43,5 +43,5 @@ script_rose nodes asked turns first last old new status (read_out endings.TooMuc
 script_rose nodes asked turns first last old new status (read_out endings.WriteFault lines is stops e text source sink) failed = absurd stops
 script_rose nodes asked turns first last old new status (read_out endings.Memory lines is stops e text source sink) failed = absurd stops
 script_rose nodes asked turns first last old new status (ending_cut end lines is stops e short) failed = short.rose
-script_rose nodes asked turns first last old new status (reply_cut lines earlier one is stops e f short) failed = short.rose
+script_rose nodes asked turns first last old new status (reply_cut lines earlier one is stops e f short source) failed = short.rose
 script_rose nodes asked turns first last old new status (runs_out lines is stops e text source sink) failed = absurd (cc)

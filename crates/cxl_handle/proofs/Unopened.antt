@@ -41,7 +41,7 @@ module _ (given : Slices) (image : Option (List ℕ)) (status : Status) (old new
       → IsAnswered (OpensNoneOver given image) status old new
   told_unopened after (sessions.no_host outcome none ends) = inl (record { outcome = outcome; is = no_files after none; ends = ends })
   told_unopened after (sessions.refused s frames host is) = told_refused s frames host is
-  told_unopened after (sessions.unread is nothing) = inr (record { status_is = is; nothing = nothing })
+  told_unopened after (sessions.unread is unfailed nothing) = inr (record { status_is = is; nothing = nothing })
 
 -- ---- its status
 
