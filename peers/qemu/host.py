@@ -7,10 +7,12 @@ are those of ACPI 6.5, PCIe 5.0 and CXL 2.0."""
 
 import struct
 from dataclasses import dataclass
-from typing import Iterator, Optional
+from functools import cached_property
+from typing import Iterator, Optional, Sequence
 
 from qtest import Qemu, QemuFault
 
+SPACE = 4096  # bytes of a function's configuration space
 RSDP_AREA = (0xe0000, 0x20000)  # where a BIOS leaves the root of ACPI
 ENDPOINT, ROOT_PORT, UPSTREAM, DOWNSTREAM = 0, 4, 5, 6  # kinds of function, of the PCI Express capability
 PCI_EXPRESS, SERIAL, DVSEC = 0x10, 0x3, 0x23  # capabilities
@@ -63,12 +65,13 @@ class Function:
         self.qemu, self.base = qemu, ecam + (bus << 20) + (device << 15)
         self.ecam, self.bus, self.device = ecam, bus, device
 
-    def read(self, at: int) -> int:
-        return self.qemu.read32(self.base + at)[0]
+    @cached_property
+    def space(self) -> bytes:
+        """All of it at once: on a busy machine an answer of QEMU may be long in coming."""
+        return self.qemu.read(self.base, SPACE)
 
-    @property
-    def is_there(self) -> bool:
-        return self.read(0) & 0xffff != 0xffff
+    def read(self, at: int) -> int:
+        return struct.unpack_from("<I", self.space, at)[0]
 
     def express(self) -> int:
         """The place of its PCI Express capability."""
@@ -191,14 +194,20 @@ class Host:
         self.nodes.append(node)
         return node
 
+    def functions(self, bus: int, devices: Sequence[int]) -> Iterator[Function]:
+        """The first function of each of these devices of a bus that is there."""
+        found = [Function(self.qemu, self.ecam, bus, device) for device in devices]
+        for function, word in zip(found, self.qemu.read32(*[it.base for it in found])):
+            if word & 0xffff != 0xffff:
+                yield function
+
     def look_below(self, parent: Node, bus: int) -> None:
         """What hangs at the ports of a bus: of a root bus the UID of its bridge is the number."""
-        for device in range(32):
-            port = Function(self.qemu, self.ecam, bus, device)
-            if not port.is_there or port.kind not in (ROOT_PORT, DOWNSTREAM):
+        for port in self.functions(bus, range(32)):
+            if port.kind not in (ROOT_PORT, DOWNSTREAM) or not port.below:
                 continue
-            child = Function(self.qemu, self.ecam, port.below, 0)
-            if not port.below or not child.is_there:
+            child = next(self.functions(port.below, [0]), None)
+            if child is None:
                 continue
             kind = {ENDPOINT: "endpoint", UPSTREAM: "switch"}[child.kind]
             node = self.found(kind, parent, port.port, child.component_registers())

@@ -14,7 +14,7 @@ import machines
 from qtest import Qemu, QemuFault
 
 LINE = 64  # bytes of a cache line
-FIRMWARE_TIME = 60  # seconds, in which firmware places the tables
+FIRMWARE_TIME = 300  # seconds, in which firmware places the tables
 PROGRAM = os.environ.get("QEMU", "qemu-system-x86_64")
 TARGETS, LOW, HIGH, WAYS3, WAYS16 = 4, 8, 9, 11, 12  # bits of the capability word
 
@@ -49,7 +49,7 @@ class Peer:
 
     def start(self, has_ram: bool) -> None:
         log = os.path.join(self.folder, "qemu.log")
-        self.qemu = Qemu(PROGRAM, machines.words_for(self.machine, self.folder, has_ram), log)
+        self.qemu = Qemu(PROGRAM, self.words(has_ram), log)
         try:
             self.host = host.Host(self.qemu, self.firmware_tables())
             self.give_names()
@@ -70,6 +70,10 @@ class Peer:
     def __exit__(self, *_):
         self.qemu.__exit__()
         self.place.cleanup()
+
+    def words(self, has_ram: bool) -> list:
+        """Those that make QEMU the machine."""
+        return machines.words_for(self.machine, self.folder, has_ram)
 
     def save(self, name: str, data: bytes) -> str:
         path = os.path.join(self.folder, name)
@@ -221,10 +225,10 @@ def filled_bytes(file: str):
             at = hole
 
 
-def image_of(peer: Peer, words: dict) -> bytes:
-    """An image file with these words; a passthrough node has a placeholder."""
+def image_of(peer: Peer, words: dict, order: Optional[list] = None) -> bytes:
+    """An image file with these words, of the nodes in this order; a passthrough node has a placeholder."""
     image = b"CXLHDM01" + struct.pack("<I", len(peer.nodes))
-    for node in peer.nodes:
+    for node in order or peer.nodes:
         image += struct.pack("<I", peer.capability(node))
         image += b"".join(struct.pack("<I", words.get((node.name, off), 0)) for off in range(4, node.length, 4))
     return image

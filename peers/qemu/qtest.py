@@ -9,7 +9,7 @@ import os
 import socket
 import subprocess
 
-ANSWER_TIME = 60  # seconds, in which QEMU answers one line
+ANSWER_TIME = 300  # seconds, in which QEMU answers one line, on a busy machine too
 AT_ONCE = 100  # lines that are sent before their answers are read
 
 
