@@ -8,15 +8,34 @@ import machines
 
 sys.path.insert(0, os.path.join(machines.TOP, "worked"))
 import cases  # noqa: E402 pylint: disable=wrong-import-position
+import texts  # noqa: E402 pylint: disable=wrong-import-position
 
 # ---- The hosts of worked/.
 
 
 def hosts():
-    """The table, the topology and the image of each host of a case that has all three, once."""
-    found = {tuple(case.files[name] for name in cases.FILES): None for path in cases.case_files([]) for case in cases.read_cases(path)
-             if len(case.files) == len(cases.FILES)}
-    return [host for host in found if host[0][:4] == b"CEDT" and host[2][:8] == b"CXLHDM01"]
+    """The table, the topology and the image of each host of a case, once; where a case of a plan has no image, that after reset."""
+    found = {}
+    for path in cases.case_files([]):
+        for case in cases.read_cases(path):
+            table, topology, image = (case.files.get(name, b"") for name in cases.FILES)
+            if not image and os.path.basename(os.path.dirname(path)) in PLANNED:
+                image = reset_image(topology)
+            if table[:4] == b"CEDT" and image[:8] == b"CXLHDM01":
+                found[table, topology, image] = None
+    return list(found)
+
+
+# The subjects whose hosts are those of plans, mostly without an image.
+PLANNED = ("plans", "picks")
+
+
+def reset_image(topology):
+    """The registers after reset, of a topology that worked/ reads itself, and else nothing."""
+    try:
+        return texts.reset_image(texts.nodes_of(topology.decode()))
+    except (texts.Fault, UnicodeDecodeError):
+        return b""
 
 
 def is_plain(image, count):

@@ -233,8 +233,7 @@ class Session:
     def __init__(self, cedt, topo, image=None, room=1 << 20):  # pylint: disable=redefined-outer-name
         """`room` is how many bytes the answer to one call of `act` may have."""
         self._handle, self._room, self._size = _Handle(None), ctypes.create_string_buffer(room), room
-        held = [_passed(it) for it in (cedt, topo, image)]
-        status, text = self._answer("session_open", *(word for at, size, _ in held for word in (at, size)))
+        status, text = self._answer("session_open", *(word for it in (cedt, topo, image) for word in _passed(it)))
         if status != DONE:
             raise Unopened(status, text)
 
@@ -252,10 +251,7 @@ class Session:
     def act(self, lines):
         """What lines are answered, one or more, as `run` answers them. With status 6 the lines up to the answer that is cut are carried
         out, and none behind it."""
-        at, size, held = _passed(lines)
-        answer = self._answer("session_act", at, size)
-        del held  # until here it kept the bytes
-        return answer
+        return self._answer("session_act", *_passed(lines))
 
     def words(self):
         """The register words that the last call of `act` sent, or opening it where there was none, in their order."""

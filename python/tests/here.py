@@ -94,10 +94,14 @@ def written_hosts():
         yield host
 
 
+# The most regions of a session.
+MOST_REGIONS = 256
+
+
 def worked_hosts():
-    """Those of them whose decoders are all as after reset or committed."""
+    """Those of them whose decoders are all as after reset or committed, with no more regions than a session has."""
     for host in written_hosts():
-        if worked.is_plain(host.image.data, len(host.nodes)):
+        if worked.is_plain(host.image.data, len(host.nodes)) and (host.breach or len(host.check()) <= MOST_REGIONS):
             yield host
 
 

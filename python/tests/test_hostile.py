@@ -259,7 +259,9 @@ class Found(Case):
         package = os.path.join(self.place, *folders, "cxlplan")
         with mock.patch.object(_engine, "HERE", package), mock.patch.object(_library, "_HERE", package), \
                 mock.patch.dict(os.environ, {"CXLPLAN_LIBRARY": "", "CXLPLAN": "", "PATH": "/none"}):
-            return [it.replace(self.place, "") for it in _library.places()], _engine.homes("crates/cxlplan/out", "bin"), _engine.program_file()
+            # the first is beside the package itself, as a wheel has it
+            self.assertEqual(_library.places()[0], f"{package}/libcxlplan.so.1")
+            return [it.replace(self.place, "") for it in _library.places()[1:]], _engine.homes("crates/cxlplan/out", "bin"), _engine.program_file()
 
     def test_checkout(self):
         """Of an unbuilt checkout nothing that is found by going up is taken."""

@@ -12,6 +12,7 @@ import unittest
 
 from here import FOUR, LOST, Case, asks_the_engine, machines, said, worked, worked_hosts, written_hosts
 from cxlplan import Host
+from cxlplan.editing import image_of
 from cxlplan.report import page_of
 from cxlplan.report.ranges import letter_of
 
@@ -91,14 +92,16 @@ NARROW = [[[0x385]] + [[0x1b05, 0, port, 3 << 28, 3 << 28] for port in range(8)]
           [[0x8000000000, 24 << 30, 0, 0, 0xe, 0], [0x10000000, 0x18000000, 0, 0, 0xe, 0], [0x8000000000, 1 << 30, 0, 0, 0xe, 0], [1 << 40, 1 << 28, 0, 0, 0xe, 9]]]
 
 
-def made(nodes, windows, ranges):
-    return Host(worked.table_of(nodes, windows), worked.topology_of(nodes), worked.image_of(nodes, ranges), "made")
+def made(nodes, windows):
+    """A host of these numbers, after reset."""
+    files = worked.table_of(nodes, windows), worked.topology_of(nodes)
+    return Host(*files, image_of(Host(*files), ""), "made")
 
 
 def narrow():
     """A host with a session's regions in it, each of them small."""
     from cxlplan.planning import image_with
-    host = made(*NARROW, [[]])
+    host = made(*NARROW)
     for number in range(10):
         line = f"create r{number} {'ram' if number < 5 else 'pmem'} 0x10000000 ways=1"
         host = Host(host.table.data, host.topology.data, image_with(host, line), "narrow")
@@ -151,7 +154,7 @@ class Pages(Case):
 
     def test_many_nodes(self):
         """1,024 nodes: idle parts are folded, and the page stays small."""
-        page = page_of(made(MANY_NODES, [[1 << 40, 1 << 40, 2, 0, 0xe, 0, 1, 2, 3]], [[]]))
+        page = page_of(made(MANY_NODES, [[1 << 40, 1 << 40, 2, 0, 0xe, 0, 1, 2, 3]]))
         self.assertLess(len(page.encode()), MOST)
         self.assertIn("idle", page)
 

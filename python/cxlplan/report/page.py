@@ -8,6 +8,7 @@ from .._engine import engine
 from ..desk.checking import odd_ones, place_facts
 from ..desk.output import size_words
 from ..desk.showing import state_of
+from ..errors import Refusal
 from ..explain import RULES
 from ..incoming import printable
 from .drawing import Tree, key, title_of, windows_part
@@ -64,7 +65,12 @@ def regions_part(host, ranges: list) -> str:
         return "<p>Registers that break a rule make no regions. The ranges above are those of committed decoders.</p>"
     if not ranges:
         return "<p>No decoder is committed: the machine is idle.</p>"
-    with host.session() as session:
+    try:
+        opened = host.session()
+    except Refusal as fault:
+        return (f"<p>No session opens here ({html.escape(str(fault))}), so who gets which chunk is not shown.</p>"
+                + "".join(region_part(None, it) for it in ranges))
+    with opened as session:
         return "".join(region_part(session, it) for it in ranges)
 
 
@@ -72,7 +78,7 @@ def region_part(session, it) -> str:
     rows = "".join(f"<tr><td>{slot.number}<td>{html.escape(slot.endpoint)}<td>{slot.start:#x}<td>{slot.start + it.region.share:#x}"
                    for slot in it.region.slots)
     chunks = ""
-    if it.ways > 1:
+    if session and it.ways > 1:
         ways = [session.down(it.base + chunk * it.gran) for chunk in range(it.ways)]
         cells = "".join(f"<span>{way.hpa:#x} <b>{html.escape(way.endpoint)}</b></span>" for way in ways)
         chunks = f"<p class=soft>The first chunks of {size_words(it.gran)}, in turn:</p><div class='chunks mono'>{cells}</div>"
