@@ -214,7 +214,7 @@ class Trial:
             _, text = desk("diff", before[form].host.name, captured.host.name)
             self.tally.diffs += 1
             parts = ("region", "window") if form == SHORT else ("region", "window", "node")  # which shows no idle decoders
-            told = {line for line in text.splitlines() if line[2:].startswith(parts)}
+            told = {" ".join(line.split()[:3]) for line in text.splitlines() if line[2:].startswith(parts)}
             if told != {f"+ region {region.base:#x}" for region in made}:
                 self.tally.fault(f"diff of {form}: {' / '.join(sorted(told))}")
 
