@@ -3,6 +3,8 @@
 import fcntl
 import os
 import pty
+import select
+import signal
 import subprocess
 import sys
 import termios
@@ -48,7 +50,7 @@ class Shell(Case):
         """Control-C gives up a line and keeps the session; sizes, ways and granularity are completed; a long word is wrapped at words."""
         here, there = pty.openpty()
         shell = subprocess.Popen([*WORDS, "--reset", *FOUR[:2]], stdin=there, stdout=there, stderr=there, start_new_session=True,
-                                 preexec_fn=lambda: fcntl.ioctl(there, termios.TIOCSCTTY, 0),
+                                 preexec_fn=lambda: (signal.signal(signal.SIGINT, signal.SIG_DFL), fcntl.ioctl(there, termios.TIOCSCTTY, 0)),
                                  env={**os.environ, "HOME": self.place, "TERM": "dumb", "COLUMNS": "60"})
         os.close(there)
         text = self.read(here, b"", "cxl> ")
@@ -68,10 +70,11 @@ class Shell(Case):
 
     @staticmethod
     def read(end, text, until):
-        """What is written up to a word."""
+        """What is written up to a word, or in a minute."""
         started = time.monotonic()
         while not text.decode(errors="replace").endswith(until) and time.monotonic() - started < 60:
-            text += os.read(end, 4096)
+            if select.select([end], [], [], 1)[0]:
+                text += os.read(end, 4096)
         return text.decode(errors="replace")
 
 
