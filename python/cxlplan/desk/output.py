@@ -149,8 +149,8 @@ def complain(text: str) -> None:
     try:
         if sys.stderr is not None:
             print(printable(f"cxldesk: {text}"), file=sys.stderr, flush=True)
-    except OSError:
-        pass  # there is nobody left to tell
+    except OSError:  # there is nobody left to tell, and at the end it is not tried again
+        os.dup2(os.open(os.devnull, os.O_WRONLY), sys.stderr.fileno())
 
 
 def as_plain(fact):
