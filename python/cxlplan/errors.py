@@ -9,6 +9,7 @@ class CxlError(Exception):
     def __init__(self, text: str, status: int = 1, cause: str = "", place: str = "") -> None:
         super().__init__(text)
         self.text, self.status, self.cause, self.place, self.hint = text, status, cause, place, ""
+        self.sources: dict = {}  # how the registers of the captures are known that it is about
 
     def as_dict(self) -> dict:
         said = {"error": type(self).__name__, "text": self.text, "status": self.status, "cause": self.cause, "place": self.place}

@@ -16,9 +16,11 @@ from ._engine import engine
 from .errors import BadFile, CxlError, NoEngine, fault_of
 from .files import Nameless, write_all
 from .incoming import FILES, read_within, why_not
+from .sources import FILE as SOURCES
+from .sources import VERDICT_WORDS, sources_of
 
 SCHEMA = "cxldesk/1"
-VERDICTS = ("sound", "breach", "fault")
+VERDICTS = tuple(VERDICT_WORDS)
 CHUNK = 100  # hosts that a worker is given at once
 
 
@@ -78,6 +80,7 @@ def looked_at(folder: str) -> tuple:
     marks: list = []
     modes = [mode_of(f"{folder}/{name}", marks) for name in FILES]
     is_gone = not any(modes) and all(it in (errno.ENOENT, errno.ENOTDIR) for it in marks)
+    mode_of(f"{folder}/{SOURCES}", marks)
     return 0 if is_gone else digest_of(repr(marks).encode()), modes
 
 
@@ -104,8 +107,9 @@ def digest_of(data: bytes) -> int:
 # ---- Verdicts.
 
 def judge(folder: str, decoders: bool = False) -> dict:
-    """What is to be said of the host in a folder: `verdict` is sound, breach or fault. Of its decoders those are told that are committed,
-    or were to be."""
+    """What is to be said of the host in a folder: `verdict` is sound, breach or fault by its registers, and told, unknown or outside where
+    the capture says that these were not read, are not known, or are not all that the host uses. Of its decoders those are told that are
+    committed, or were to be."""
     said = facts_of(folder, decoders)
     if "decoders" in said:
         said["decoders"] = [it.as_dict() for it in said["decoders"]]
@@ -136,6 +140,9 @@ def facts_of(folder: str, decoders: bool) -> dict:
         said.update(status=fault.status, text=fault.text)
     except Exception as fault:  # pylint: disable=broad-except
         said.update(verdict="fault", status=5, text=f"not understood: {type(fault).__name__}")  # one host does not end the others' run
+    sources = sources_of(folder)
+    if sources:
+        said.update(verdict=sources.verdict(said["verdict"]), sources=sources.as_dict())
     return said
 
 

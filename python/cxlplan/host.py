@@ -11,6 +11,7 @@ from .errors import BadFile, Breach, CxlError, NoEngine, Refusal, fault_of
 from .facts import Decoder, Down, Node, Place, Planned, Position, Region, Up, Window
 from .incoming import FILES, address, read_file, read_within
 from .session import Session, create_line
+from .sources import Sources, sources_of
 
 
 def answered(pair: tuple) -> str:
@@ -69,6 +70,7 @@ class Host:
     def __init__(self, table: bytes, topology: bytes, image: Optional[bytes] = None, name: str = "host", files: tuple = FILES) -> None:
         self.name, self.table, self.topology = name, Table(table, files[0]), Topology(topology, files[1])
         self.image = None if image is None else Image(image, files[2])
+        self.sources: Optional[Sources] = None
 
     @classmethod
     def from_files(cls, table: str, topology: str, image: Optional[str] = None) -> "Host":
@@ -88,8 +90,10 @@ class Host:
         for name in (os.path.join(folder, file) for file in files):
             if not os.path.lexists(name):
                 raise BadFile(f"{name}: is not there; cxl-capture makes {', '.join(FILES)}", 2, "missing", name)
-        return cls(*(read_within(folder, file) for file in files), name=folder,
+        host = cls(*(read_within(folder, file) for file in files), name=folder,
                    files=tuple(os.path.join(folder, file) for file in FILES))
+        host.sources = None if is_reset else sources_of(folder)
+        return host
 
     @property
     def _bytes(self) -> tuple:
@@ -160,6 +164,13 @@ class Host:
         return {key: {it.node: it for it in reversed(decoders)} for key, decoders in self.ranges.items()}
 
     # ---- Whether it is sound.
+
+    @property
+    def verdict(self) -> str:
+        """sound or breach, by its registers; of a captured host also told, where they are sound as Linux tells them, and unknown or
+        outside, where neither can be said."""
+        of_files = "breach" if self.breach else "sound"
+        return self.sources.verdict(of_files) if self.sources else of_files
 
     def check(self) -> list:
         """The Regions of the image by rising base; the first broken rule is raised as a Breach."""

@@ -144,10 +144,11 @@ class Asked(Case):
         rules = set()
         for folder in folders:
             with self.subTest(folder):
-                self.assertEqual(said("show", folder)[::2], (0, ""))
+                is_open = Host.from_folder(folder).verdict == "unknown"
+                self.assertEqual(said("show", folder)[::2], (13 if is_open else 0, ""))
                 status, text, line = said("check", folder)
-                self.assertEqual(line, "")
-                if status == 8:
+                self.assertEqual((line, status == 13), ("", is_open))
+                if text.startswith("breach"):
                     rules.add(text.split()[1])
                     self.assertRegex(text, r"(?m)^At decoder \d+ of \w+: .+\.$")
         self.assertGreater(len(rules), 2)

@@ -108,6 +108,9 @@ def narrow():
     return host
 
 
+TITLES = {"sound": "<b>Sound.</b>", "told": "<b>Sound as Linux tells it.</b>", "unknown": "<b>Not known.</b>"}
+
+
 @asks_the_engine
 class Pages(Case):
     def hosts(self):
@@ -126,7 +129,7 @@ class Pages(Case):
             with self.subTest(host.name):
                 page = page_of(host)
                 self.assertNotRegex(page, r"<script|\son[a-z]+=|https?:|src=|@import|url\((?!data)")
-                self.assertIn("<b>Sound.</b>" if host.breach is None else html.escape(host.breach.text), page)
+                self.assertIn(html.escape(host.breach.text) if host.breach else TITLES[host.verdict], page)
 
     def test_command(self):
         """The capture's own report stands in the page; a file that is there is left alone."""

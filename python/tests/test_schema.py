@@ -11,7 +11,7 @@ except ImportError:
 from here import FOUR, LOST, SCHEMA, Case, asks_the_engine, faults, machines, said
 
 TAKEN = {"anyOf", "const", "enum", "type", "required", "properties", "additionalProperties", "items", "$ref", "$defs", "$schema", "$id",
-         "title"}
+         "title", "description"}
 
 
 def words_in(schema):
@@ -75,11 +75,11 @@ class Commands(Case):
                 self.holds(status, *words)
 
     def test_machines(self):
-        """Each captured machine, and each host with a hole."""
+        """Each captured machine, and each host with a hole, of which some registers are not known."""
         for machine in machines.MACHINES + machines.HOLES + machines.NEWER:
             folder, is_whole = self.captured(machine), machine not in machines.HOLES
-            self.holds(0, "show", folder)
-            value = self.holds(0 if is_whole else 8, "check", folder)
+            self.holds(0 if is_whole else 13, "show", folder)
+            value = self.holds(0 if is_whole else 13, "check", folder)
             self.assertEqual(value["sound"], is_whole)
 
 

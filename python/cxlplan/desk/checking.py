@@ -18,18 +18,23 @@ def arguments(parser) -> None:
 
 def answer(options) -> Answer:
     host = only_host(options.words, options)
-    if host.breach is None:
-        said = Answer({"host": host.name, "sound": True, "regions": [it.as_dict() for it in host.regions]})
-        region_rows(said, host.regions)
-        return said
-    return broken(host)
+    return broken(host) if host.breach else sound(host)
+
+
+def sound(host: Host) -> Answer:
+    """What there is to say where no rule is broken: of a capture also how its registers are known."""
+    verdict = host.verdict
+    said = Answer({"host": host.name, "verdict": verdict, "sound": verdict in ("sound", "told"), "regions": [it.as_dict() for it in host.regions]})
+    region_rows(said, host.regions)
+    return said.lines(host.sources.lines("sound") if host.sources else [])
 
 
 def broken(host: Host) -> Answer:
     """What there is to say of a rule that is broken."""
     wants, why, advice = RULES[host.breach.rule]
     places = [place_facts(host, place) for place in host.places()]
-    facts = {"host": host.name, "sound": False, "rule": host.breach.rule, "wants": wants, "why": why, "advice": advice, "places": places}
+    facts = {"host": host.name, "verdict": host.verdict, "sound": False, "rule": host.breach.rule, "wants": wants, "why": why,
+             "advice": advice, "places": places}
     said = Answer(facts, 8).line(host.breach.text)
     said.line(f"{host.breach.rule} wants: {wants}.").line(f"Else: {why}.").line(f"To do: {advice}.")
     for place in places:
@@ -37,7 +42,7 @@ def broken(host: Host) -> Answer:
     named = {(it["node"], it["decoder"]) for it in places}
     for decoder in dict.fromkeys(place["range"] for place in places if place["range"]):
         add_range(said, host, decoder, named)
-    return said
+    return said.lines(host.sources.lines("breach") if host.sources else [])
 
 
 class Beside:

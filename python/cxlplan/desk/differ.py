@@ -5,6 +5,7 @@ from dataclasses import fields
 from ..errors import BadWords
 from ..facts import Decoder, Region
 from ..host import Host
+from ..sources import VERDICT_WORDS
 from .output import Answer
 from .words import take_host
 
@@ -22,7 +23,7 @@ def answer(options) -> Answer:
     if rest:
         raise BadWords(f"{rest[0]}: one word too many; see cxldesk diff --help", 1, "extra", rest[0])
     changes = [change for part in PARTS for change in compared(first, second, *part)]
-    verdicts = [host.breach.text if host.breach else f"sound, {len(host.regions)} regions" for host in (first, second)]
+    verdicts = [verdict_of(host) for host in (first, second)]
     if verdicts[0] != verdicts[1]:
         changes.append({"what": "verdict", "name": "check", "change": "changed",
                         "fields": [{"field": "verdict", "was": verdicts[0], "is": verdicts[1]}]})
@@ -30,7 +31,13 @@ def answer(options) -> Answer:
     for change in changes:
         told = told_fields(change)
         said.line(f"{SIGNS[change['change']]} {change['what']} {change['name']}" + "".join(f" {it}" for it in told))
-    return said
+    return said.lines([f"{host.name}: {line}" for host in (first, second) if host.sources for line in host.sources.lines()])
+
+
+def verdict_of(host: Host) -> str:
+    """The verdict in words: with the first broken rule, or the number of regions."""
+    held = host.breach.text if host.breach else f"{len(host.regions)} regions"
+    return held if host.verdict == "breach" else f"{VERDICT_WORDS[host.verdict]}, {held}"
 
 
 def told_fields(change: dict) -> list:

@@ -6,6 +6,7 @@ import sys
 from ..errors import BadFile, BadWords
 from ..fleet import CHUNK, File, Keeper, Lines, hosts_in, stamp_of
 from ..incoming import number
+from ..sources import OPEN, VERDICT_WORDS
 from .output import NO_OUTPUT, complain, ended_output
 
 BAR = 40  # letters of the progress bar
@@ -20,7 +21,7 @@ def arguments(parser) -> None:
 
 
 def work(options) -> int:
-    """Judges all hosts; gives 0 where all are sound, else 8."""
+    """Judges all hosts; gives 8 where one is broken or was not judged, else 13 where one is not known or outside the profile, else 0."""
     if options.db is not None and options.out is not None:
         raise BadWords("--db and --out do not go together; see cxldesk fleet --help", 1, "usage")
     for place in options.words:
@@ -63,7 +64,7 @@ def judge_into(keeper: Keeper, places: list, jobs: int) -> int:
     found = list(hosts_in(map(os.path.abspath, places) if kept else places))  # in a file hosts have their whole names
     wanted, gone = looked_over(keeper, found)
     shares = [wanted[at:at + CHUNK] for at in range(0, len(wanted), CHUNK)]
-    counts = {"sound": 0, "breach": 0, "fault": 0}
+    counts = dict.fromkeys(VERDICT_WORDS, 0)
     for _, verdict in keeper.done.values():
         counts[verdict] += 1
     before, done = len(keeper.done), 0
@@ -74,7 +75,7 @@ def judge_into(keeper: Keeper, places: list, jobs: int) -> int:
         done += len(share)
         progress(done, len(wanted))
     complain(summary(counts, before, gone))
-    return 8 if counts["breach"] or counts["fault"] else 0
+    return 8 if counts["breach"] or counts["fault"] else OPEN if counts["unknown"] or counts["outside"] else 0
 
 
 def looked_over(keeper: Keeper, found: list) -> tuple:
@@ -95,7 +96,8 @@ def looked_over(keeper: Keeper, found: list) -> tuple:
 
 
 def summary(counts: dict, before: int, gone: int) -> str:
-    words = f"{sum(counts.values())} hosts: {counts['sound']} sound, {counts['breach']} broken, {counts['fault']} not read"
+    always = ("sound", "breach", "fault")  # the others where there are some
+    words = f"{sum(counts.values())} hosts: " + ", ".join(f"{counts[it]} {told}" for it, told in VERDICT_WORDS.items() if counts[it] or it in always)
     words += f"; {before} of them judged before" if before else ""
     return words + (f"; {gone} gone since" if gone else "")
 

@@ -7,6 +7,7 @@ from contextlib import contextmanager
 from importlib import import_module
 
 from ..errors import CxlError
+from ..sources import OPEN
 from .output import Answer, as_json, complain, hold_ends, tell
 from .words import Parser
 
@@ -102,8 +103,8 @@ def told(fault: CxlError, command: str, wants_json: bool) -> int:
     """Says what stood in the way, and gives the exit status."""
     status = fault.status if 0 < fault.status < 126 else 1
     if wants_json:
-        return status if tell(as_json(command, {"error": fault.as_dict()})) else 1
-    text = fault.text.split("\n")[0] if fault.status != 8 else fault.text.replace("\n", "; ")
+        return status if tell(as_json(command, {"error": fault.as_dict(), **fault.sources})) else 1
+    text = fault.text.split("\n")[0] if fault.status not in (8, OPEN) else fault.text.replace("\n", "; ")
     complain(f"{text}; {fault.hint}" if fault.hint else text)
     return status
 
@@ -121,9 +122,35 @@ def carried_out(words: list) -> int:
     module = module_of(options.command)
     if hasattr(module, "work"):
         return module.work(options)
-    said: Answer = module.answer(options)
+    try:
+        said: Answer = module.answer(options)
+    except CxlError as fault:
+        fault.sources = sources_of(options.hosts)
+        fault.status = with_doubt(options, fault.status, options.json)
+        raise
+    status = with_doubt(options, said.status, options.json or options.command in SAY_IT_THEMSELVES)
+    said.facts.update(sources_of(options.hosts))
     text = as_json(options.command, said.facts) if options.json else said.text(options.aligned or is_terminal())
-    return said.status if tell(text) else 1
+    return status if tell(text) else 1
+
+
+SAY_IT_THEMSELVES = ("check", "show", "diff", "report")  # how the registers are known; of the others standard error does
+
+
+def with_doubt(options, status: int, is_said: bool) -> int:
+    """The exit status of an answer on captures: another one where neither sound nor broken can be said of one. How their registers are
+    known is said on standard error where the answer does not say it."""
+    known = [it.sources for it in options.hosts if it.sources and status in (0, 8)]
+    for it in [] if is_said else known:
+        for line in it.lines():
+            complain(line)
+    return OPEN if any(it.is_open for it in known) else status
+
+
+def sources_of(hosts: list) -> dict:
+    """How the registers of captures are known, as a fact behind the others."""
+    found = [it.sources and it.sources.as_dict() for it in hosts]
+    return {"sources": found} if any(found) else {}
 
 
 def is_terminal() -> bool:

@@ -53,6 +53,11 @@ class Answer:
         self.parts.append(text)
         return self
 
+    def lines(self, texts: list) -> "Answer":
+        """Lines as they stand."""
+        self.parts += texts
+        return self
+
     def rows(self, kind: str, rows: list) -> "Answer":
         """Rows of one kind, each a dictionary from a field's name to its value."""
         if rows:

@@ -14,6 +14,7 @@ from ..explain import EXPLAINED, explained, reason_words, refusal_words
 from ..host import Host
 from ..incoming import amount, in_bytes, number, printable
 from ..room import WAYS
+from ..sources import OPEN
 from .output import complain, tell
 from .rooms import room_answer
 from .slips import like, of_plan
@@ -269,4 +270,8 @@ def wrapped(lines: list, indent: str = "") -> str:
 
 
 def work(options) -> int:
-    return Shell(only_host(options.words, options), options.stop).run()
+    host = only_host(options.words, options)
+    for line in host.sources.lines() if host.sources else []:
+        complain(line)
+    status = Shell(host, options.stop).run()
+    return OPEN if status in (0, 8) and host.sources and host.sources.is_open else status

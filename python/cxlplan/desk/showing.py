@@ -19,7 +19,8 @@ def answer(options) -> Answer:
     breach = host.breach
     facts = {"host": host.name, "bridges": [it.as_dict() for it in host.table.records if isinstance(it, Bridge)], "windows": windows,
              "nodes": [node.as_dict() for node in host.nodes], "decoders": [it.as_dict() for it in host.decoders],
-             "regions": [] if breach else [it.as_dict() for it in host.regions], "breach": breach and breach_facts(breach)}
+             "regions": [] if breach else [it.as_dict() for it in host.regions], "breach": breach and breach_facts(breach),
+             "verdict": host.verdict}
     said = Answer(facts)
     said.rows("window", [window_row(window, facts) for window, facts in zip(host.windows, windows)])
     said.rows("node", [node_row(node, depth) for node, depth in tree_order(host.nodes)])
@@ -28,7 +29,7 @@ def answer(options) -> Answer:
         said.line(breach.text)
     else:
         region_rows(said, host.regions)
-    return said
+    return said.lines(host.sources.lines("breach" if breach else "sound") if host.sources else [])
 
 
 def breach_facts(breach) -> dict:

@@ -28,6 +28,7 @@ class Parser(argparse.ArgumentParser):
             self.error(f"{rest[0]}: one word too many")
         if rest:
             said.words = said.words + rest
+        said.hosts = []  # folders of captures, as they are taken
         return said
 
 
@@ -38,7 +39,8 @@ def take_host(words: list, options) -> tuple:
         raise BadWords(f"no HOST is named: a folder that cxl-capture made, or CEDT TOPO IMAGE; see cxldesk {options.command} --help",
                        1, "missing")
     if os.path.isdir(words[0]):
-        return Host.from_folder(words[0], is_reset), words[1:]
+        options.hosts.append(Host.from_folder(words[0], is_reset))
+        return options.hosts[-1], words[1:]
     count = 2 if is_reset else 3
     if not os.path.lexists(words[0]) and words[0] != "-":
         raise BadFile(f"{words[0]}: No such file or directory", 2, "cannot read", words[0])

@@ -11,6 +11,7 @@ from ..desk.showing import state_of
 from ..errors import Refusal
 from ..explain import RULES
 from ..incoming import printable
+from ..sources import VERDICT_WORDS
 from .drawing import Tree, key, title_of, windows_part
 from .ranges import ranges_of
 from .style import STYLE, fills
@@ -37,17 +38,22 @@ def page_of(host, inferred: str = "") -> str:
 def verdict_part(host) -> str:
     if host.image is None:
         return "<div class=verdict><b>After reset.</b> No register image was given.</div>"
+    verdict = host.verdict
+    look = {"sound": "verdict", "breach": "'verdict broken'"}.get(verdict, "'verdict doubt'")
+    title = VERDICT_WORDS[verdict].capitalize().replace("linux", "Linux")
+    doubt = "".join(f"<p>{html.escape(line)}</p>" for line in host.sources.lines()) if host.sources else ""
     if host.breach is None:
         count = len(host.regions)
-        return (f"<div class=verdict><b>Sound.</b> {count} region{'s' * (count != 1)}: each host byte of them goes to one device byte, and no "
-                "device byte serves two regions.</div>")
+        return (f"<div class={look}><b>{title}.</b> {count} region{'s' * (count != 1)}: each host byte of them goes to one device byte, and no "
+                f"device byte serves two regions{'' if verdict == 'sound' else ', by these files'}.{doubt}</div>")
     wants, why, advice = RULES[host.breach.rule]
     places = [place_facts(host, place) for place in host.places()]
     broken = {(it["node"], it["decoder"]) for it in places}
     found = "".join(f"<li>Decoder {it['decoder']} of <b>{html.escape(it['node'])}</b>: {html.escape(it['found'])}.</li>" for it in places)
     tables = "".join(range_part(host, it, broken) for it in dict.fromkeys(it["range"] for it in places if it["range"]))
-    return (f"<div class='verdict broken'><b>{html.escape(host.breach.text)}</b><ul>{found}</ul><p>{host.breach.rule} wants: {wants}.</p>"
-            f"<p>Else: {why}.</p><p>To do: {advice}.</p></div>{tables}")
+    front = "" if verdict == "breach" else f"<b>{title}.</b> By these files: "
+    return (f"<div class={look}>{front}<b>{html.escape(host.breach.text)}</b><ul>{found}</ul><p>{host.breach.rule} wants: {wants}.</p>"
+            f"<p>Else: {why}.</p><p>To do: {advice}.</p>{doubt}</div>{tables}")
 
 
 def range_part(host, wanted: tuple, broken: set) -> str:

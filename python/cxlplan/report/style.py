@@ -8,11 +8,12 @@ PATTERNS = ("45deg, #0004 0 1px, #0000 1px 7px", "135deg, #0004 0 1px, #0000 1px
 
 STYLE = """
 :root{--page:#fff;--ink:#1a1a1a;--soft:#595959;--line:#8c8c8c;--box:#f2f2f2;--ram:#fff;--pmem:#dcdcdc;--bad:#a40000;--bad-box:#fdeaea;
---good:#0b5d1e;--good-box:#e8f5ec}
+--good:#0b5d1e;--good-box:#e8f5ec;--doubt:#704500;--doubt-box:#fff4de}
 @media (prefers-color-scheme:dark){:root{--page:#15171a;--ink:#ececec;--soft:#b0b0b0;--line:#7d7d7d;--box:#24272c;--ram:#15171a;
---pmem:#3a3e45;--bad:#ff9d94;--bad-box:#3b1d1d;--good:#8ddba2;--good-box:#16301e}}
+--pmem:#3a3e45;--bad:#ff9d94;--bad-box:#3b1d1d;--good:#8ddba2;--good-box:#16301e;
+--doubt:#ffc870;--doubt-box:#362a12}}
 @media print{:root{--page:#fff;--ink:#000;--soft:#444;--line:#666;--box:#f2f2f2;--ram:#fff;--pmem:#dcdcdc;--bad:#900;--bad-box:#fff;
---good:#053;--good-box:#fff}body{font-size:9pt}*{print-color-adjust:exact;-webkit-print-color-adjust:exact}
+--good:#053;--good-box:#fff;--doubt:#530;--doubt-box:#fff}body{font-size:9pt}*{print-color-adjust:exact;-webkit-print-color-adjust:exact}
 .scroll{overflow:visible!important}section,.window,.region{break-inside:avoid-page}}
 *{box-sizing:border-box}
 body{margin:0 auto;padding:1rem;max-width:72rem;background:var(--page);color:var(--ink);font:15px/1.45 system-ui,sans-serif;
@@ -23,7 +24,8 @@ code,.bar,.mono,table,pre,.tree{font-family:ui-monospace,"DejaVu Sans Mono",Menl
 .soft{color:var(--soft)}.bad{color:var(--bad)}
 .verdict{padding:.6rem 1rem;border:2px solid var(--good);background:var(--good-box);border-radius:6px}
 .verdict.broken{border-color:var(--bad);background:var(--bad-box)}
-.verdict b{color:var(--good)}.verdict.broken b{color:var(--bad)}
+.verdict.doubt{border-color:var(--doubt);border-style:dashed;background:var(--doubt-box)}
+.verdict b{color:var(--good)}.verdict.broken b{color:var(--bad)}.verdict.doubt b{color:var(--doubt)}
 .bar{position:relative;height:28px;border:1px solid var(--line);background:var(--box);margin:.2rem 0}
 .bar.off{border-style:dashed;background:repeating-linear-gradient(45deg,var(--box) 0 6px,var(--line) 6px 7px)}
 .bar i{position:absolute;top:0;bottom:0;min-width:3px;border:1px solid #000;font-style:normal;overflow:hidden;text-align:center;
