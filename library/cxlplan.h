@@ -57,8 +57,13 @@ enum cxlplan_status {
 /* The version of this header: the first number is that of libcxlplan.so. */
 #define CXLPLAN_VERSION "1.0.0"
 
-/* Stack that a call may take, in bytes. Measured were 25,000, and 1,600,000 for a topology of 13 KB that is made to be hard to read. */
+/* Stack that a call may take, in bytes. Measured were 25,000, and for a topology of 13 KB that is made to be hard to read 1,600,000 on
+   x86-64 and 2,500,000 on arm64. */
+#ifdef __aarch64__
+#define CXLPLAN_STACK 3145728
+#else
 #define CXLPLAN_STACK 2097152
+#endif
 
 /* Where a host address goes: its window, position and host bridge, as `cxlplan route CEDT HPA` tells them.
    Statuses 0, 1, 3, 6, 8, 9, 12. */
