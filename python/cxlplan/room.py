@@ -13,6 +13,7 @@ from .host import Host
 
 GRAIN = 256 << 20
 WAYS = (1, 2, 3, 4, 6, 8, 12, 16)
+TOO_MUCH = 1 << 51  # bytes of a region
 FIXED = 1 << 4  # of a window's restrictions
 PROBE = "probe"
 
@@ -27,7 +28,7 @@ class FreeRange(Fact):
 
 @dataclass(frozen=True)
 class FreeMemory(Fact):
-    """An endpoint's memory of a kind, and how much of it no region has."""
+    """An endpoint's memory of a kind, and how much of it a further region could take."""
     endpoint: str
     kind: str
     size: int
@@ -44,7 +45,7 @@ class Room(Fact):
 
 def room_of(host: Host, kinds: tuple = ("ram", "pmem")) -> Room:
     regions = host.regions
-    return Room(tuple(free_ranges(host.windows, regions)), tuple(free_memory(host.endpoints, regions)),
+    return Room(tuple(free_ranges(host.windows, regions)), tuple(free_memory(host)),
                 tuple(region for window in host.windows if window.is_usable for region in largest_in(host, window, kinds)))
 
 
@@ -60,16 +61,23 @@ def free_ranges(windows: list, regions: list):
             yield FreeRange(window.number, at, window.end - at)
 
 
-def free_memory(endpoints: list, regions: list):
-    """Of each endpoint and kind what the shares of regions leave."""
-    used: dict = {}
-    for region in regions:
-        for slot in region.slots:
-            used[slot.endpoint, region.kind] = used.get((slot.endpoint, region.kind), 0) + region.share
-    for node in endpoints:
-        for kind, size in (("ram", node.ram), ("pmem", node.pmem)):
-            if size:
-                yield FreeMemory(node.name, kind, size, size - used.get((node.name, kind), 0))
+def free_memory(host: Host):
+    """Of each endpoint and kind how many bytes are behind its last span, where the next one begins."""
+    with host.session() as session:
+        for node in host.endpoints:
+            for kind, size in (("ram", node.ram), ("pmem", node.pmem)):
+                if size:
+                    yield FreeMemory(node.name, kind, size, free_at(session, node.name, kind))
+
+
+def free_at(session, endpoint: str, kind: str) -> int:
+    """The planner's answer to a region that no device has room for: from where to where there is room for a share. A device whose ram
+    was skipped has none left in it, and one without a free decoder takes no share at all."""
+    refused = session.would(f"create {PROBE} {kind} {TOO_MUCH:#x} {endpoint}")
+    if refused is None or refused.cause != "span" or " no-room " not in refused.place:
+        return 0
+    start, limit = refused.place.split()[-2:]
+    return int(limit, 16) - int(start, 16)
 
 
 def largest_in(host: Host, window, kinds: tuple):

@@ -7,10 +7,11 @@ import re
 import struct
 import unittest
 
-from here import BENCH, FOUR, Case, asks_the_engine, machines, peer, said, worked_hosts
+from here import BENCH, FOUR, Case, asks_the_engine, machines, peer, said, worked, worked_hosts
 from cxlplan import Host, Refusal, regions, texts
 from cxlplan._engine import engine
 from cxlplan.editing import reset_image
+from cxlplan.incoming import in_bytes
 from cxlplan.planning import image_with
 from cxlplan.room import table_with
 from pipe_session import PipeSession
@@ -312,6 +313,21 @@ class Room(Beside):
                         self.assertIsInstance(session.would(line.format(region.size + (region.ways << 28))), Refusal)
             self.assertEqual(sum(it.size for it in room.ranges), sum(it.size for it in host.windows if it.is_usable)
                              - sum(it.size for it in host.regions))
+
+    def test_memory(self):
+        """What is free of a kind is what a share can have: 1 GiB of ram and of pmem, in a window of one way. Behind a region of pmem, whose
+        decoder skips what is left of the ram, no region has ram there any more, and without a decoder none has anything."""
+        nodes, windows = [[0x385], [0x1b05, 0, 0, 1 << 30, 1 << 30]], [[1 << 32, 1 << 32, 0, 0, 0xe, 0]]
+        host = Host(worked.table_of(nodes, windows), worked.topology_of(nodes))
+        for line, ram, pmem in (("", 4, 4), ("a ram 256M ways=1", 3, 4), ("b pmem 512M ways=1", 0, 2), ("c pmem 256M ways=1", 0, 1)):
+            if line:
+                host = Host(host.table.data, host.topology.data, image_with(host, in_bytes(f"create {line}")))
+            with self.subTest(line):
+                self.assertEqual([(it.kind, it.size, it.free >> 28) for it in host.room().memory], [("ram", 1 << 30, ram), ("pmem", 1 << 30, pmem)])
+                with host.session() as session:
+                    for kind, free in (("ram", ram), ("pmem", pmem)):
+                        self.assertEqual([session.would(f"create r {kind} {shares << 28:#x} n1") is None for shares in (free, free + 1)],
+                                         [free > 0, False])
 
     def test_windows(self):
         """A table in which all windows but one are of fixed configuration is the same but for that."""
