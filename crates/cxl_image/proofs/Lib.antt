@@ -6,3 +6,4 @@ pub mod Readings
 pub mod Blocks
 pub mod AfterWrite
 pub mod Texts
+pub mod OtherDecoders

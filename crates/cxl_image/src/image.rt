@@ -5,10 +5,11 @@ ghost use Rattle.cxl_regs.specs.Registers.{IsBlock};
 ghost use Rattle.cxl_regs.specs.Blocks.{blocks_after};
 ghost use Rattle.cxl_regs.specs.Writes.{after_word};
 ghost use Rattle.cxl_topo.specs.declared.node.Node.{Node};
-ghost use Rattle.cxl_image.specs.Images.{reset_blocks, IsImage, HasCapsOf};
+ghost use Rattle.cxl_image.specs.Images.{reset_blocks, IsImage, HasCapsOf, CanPut, blocks_with};
 
+use crate::putting::with_decoder;
 use cxl_enc::Memory;
-use cxl_regs::{Block, Effect, copies, write_laws};
+use cxl_regs::{Block, Decoder, Effect, copies, write_laws};
 use cxl_topo::Topo;
 use std::alloc::Global;
 use std::marker::Model;
@@ -97,5 +98,16 @@ impl Image {
     {
         write_laws();
         self.blocks[node as usize].write32(off, value)
+    }
+
+    /// Gives a decoder of a node's block these registers, without the write rules of blocks: so an image can be looked at to which no
+    /// writes lead. All else stays as it is.
+    pub fn put_decoder(&mut self, node: u32, index: u8, d: &Decoder)
+        requires { CanPut self.old node index d.now }
+        ensures left { self.new ≡ blocks_with self.old node index d.now }
+        ensures same_caps { (nodes : List Node) → HasCapsOf self.old nodes → HasCapsOf self.new nodes }
+    {
+        let block = with_decoder(&self.blocks[node as usize], index, d);
+        self.blocks[node as usize] = block;
     }
 }

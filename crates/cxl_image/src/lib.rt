@@ -6,6 +6,7 @@ mod image;
 mod judging;
 mod laws;
 mod nodes;
+mod putting;
 mod reading;
 mod words;
 mod writing;
