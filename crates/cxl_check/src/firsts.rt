@@ -23,7 +23,7 @@ pub struct RangeKey {
 }
 
 /// The endpoint that a table has for a range.
-pub(crate) fn first_of(firsts: &BTreeMap<RangeKey, u32>, range: &Range) -> Option<u32>
+pub fn first_of(firsts: &BTreeMap<RangeKey, u32>, range: &Range) -> Option<u32>
     ensures { result ≡ get key_cmp firsts.now (record { base = range.now.base; size = range.now.size }) }
 {
     let key = RangeKey {
@@ -34,10 +34,7 @@ pub(crate) fn first_of(firsts: &BTreeMap<RangeKey, u32>, range: &Range) -> Optio
 }
 
 /// The first endpoint of each committed range that has one. Takes memory.
-pub(crate) fn first_endpoints(
-    alloc: Global,
-    host: &Host,
-) -> Result<BTreeMap<RangeKey, u32>, AllocError>
+pub fn first_endpoints(alloc: Global, host: &Host) -> Result<BTreeMap<RangeKey, u32>, AllocError>
     ensures { IfOk result
         (λ firsts. ListsFirsts (as_system host.now) (length host.now.topo.now.nodes) firsts) }
 {

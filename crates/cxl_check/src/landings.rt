@@ -9,7 +9,7 @@ use cxl_topo::{NodeKind, Topo};
 use std::alloc::{AllocError, Global};
 
 /// Whether each node is the landing of a bridge. Takes memory.
-pub(crate) fn landings(alloc: Global, topo: &Topo) -> Result<Vec<bool>, AllocError>
+pub fn landings_of_bridges(alloc: Global, topo: &Topo) -> Result<Vec<bool>, AllocError>
     ensures { IfOk result (λ landings. AreLandings topo.now.nodes landings.items) }
 {
     let mut landings = vec![in alloc; false; topo.count() as usize]?;

@@ -28,4 +28,6 @@ mod window;
 pub use checking::check;
 pub use cxl_model::{Found, Place};
 pub use fault::{Breach, CheckFault};
+pub use firsts::{RangeKey, first_endpoints, first_of};
+pub use landings::landings_of_bridges;
 pub use places::breaches;

@@ -9,7 +9,7 @@ ghost use Rattle.cxl_check.specs.inner.Facts.{AreSystemTables};
 use crate::children::all_children;
 use crate::decoder_facts::{DecoderFacts, all_decoder_facts};
 use crate::firsts::{RangeKey, first_endpoints};
-use crate::landings::landings;
+use crate::landings::landings_of_bridges;
 use cxl_model::Host;
 use std::alloc::{AllocError, Global};
 use std::collections::BTreeMap;
@@ -33,7 +33,7 @@ pub(crate) fn tables_of(alloc: Global, host: &Host) -> Result<Tables, AllocError
     ensures { IfOk result (AreSystemTables (as_system host.now)) }
 {
     let children = all_children(alloc, host.topo)?;
-    let landings = landings(alloc, host.topo)?;
+    let landings = landings_of_bridges(alloc, host.topo)?;
     let firsts = first_endpoints(alloc, host)?;
     let decoders = all_decoder_facts(alloc, host)?;
     Ok(Tables {

@@ -1,7 +1,7 @@
 use Rattle.std.proofs.Common.{◌≡◌, ◌+◌, Bool, Vec, Global, length, sym, ap, subst, arith, rules}
 use Rattle.cxl_check.proofs.Marks.{AreMarked, not_marked, none_marked, one_marked, all_marked}
-use Rattle.cxl_check.proofs.landings.landings.Goals as goal
-use Rattle.cxl_check.proofs.landings.landings.Goals.{in-Some, in_default}
+use Rattle.cxl_check.proofs.landings.landings_of_bridges.Goals as goal
+use Rattle.cxl_check.proofs.landings.landings_of_bridges.Goals.{in-Some, in_default}
 
 pub loop-bridge-preserved : goal.loop-bridge-preserved
 loop-bridge-preserved c =
