@@ -8,6 +8,9 @@ pub mod Gap
 pub mod Parts
 pub mod CellLists
 pub mod Kept
+pub mod Linked
+pub mod Zoned
+pub mod Walks
 pub mod Homes
 pub mod Indexed
 pub mod Values

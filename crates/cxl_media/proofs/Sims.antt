@@ -104,11 +104,19 @@ module _ (s : Sim) (room : ℕ) (sim : IsSim s room) (k : Key) (n : ℕ) (there 
       omega (arith, count-set s.pool n (Some b) (out_within s.pool n out), not_counted (frame_bytes s.pool n) out)
 
 -- what a map has after a value was set
-insert_cases : (m : FinMap key_cmp ℕ) (k q : Key) (n x : ℕ) → fin.get (fin.insert m k n) q ≡ Some x → ((q ≡ k) × (x ≡ n)) ⊎ ((q ≢ k) × (fin.get m q ≡ Some x))
+pub insert_cases : (m : FinMap key_cmp ℕ) (k q : Key) (n x : ℕ) → fin.get (fin.insert m k n) q ≡ Some x → ((q ≡ k) × (x ≡ n)) ⊎ ((q ≢ k) × (fin.get m q ≡ Some x))
 insert_cases m k q n x is =
     elim (keys_cases q k) [
       | inl same ↦ inl (same, same_some x n (sym is ∙ fin.get-insert key_total m k n q ∙ cond-true _ (Some n) (fin.get m q) (key_is q k same)))
       | inr other ↦ inr (other, sym (fin.get-insert key_total m k n q ∙ cond-false _ (Some n) (fin.get m q) (key_is_not q k other)) ∙ is)
+    ]
+
+-- what a map has after a value was taken out
+pub remove_cases : (m : FinMap key_cmp ℕ) (k q : Key) (x : ℕ) → fin.get (fin.remove m k) q ≡ Some x → (q ≢ k) × (fin.get m q ≡ Some x)
+remove_cases m k q x is =
+    elim (keys_cases q k) [
+      | inl same ↦ absurd (not_none x (sym is ∙ fin.get-remove key_total m k q ∙ cond-true _ None (fin.get m q) (key_is q k same)))
+      | inr other ↦ (other, sym (fin.get-remove key_total m k q ∙ cond-false _ None (fin.get m q) (key_is_not q k other)) ∙ is)
     ]
 
 -- a block takes a frame that was free
@@ -164,11 +172,7 @@ module _ (s : Sim) (room : ℕ) (sim : IsSim s room) (k : Key) (missing : fin.ge
 -- a block is dropped, and its frame freed
 module _ (s : Sim) (room : ℕ) (sim : IsSim s room) (k : Key) (n : ℕ) (there : fin.get s.frames k ≡ Some n) where
   left_other : (q : Key) (x : ℕ) → fin.get (fin.remove s.frames k) q ≡ Some x → (q ≢ k) × (fin.get s.frames q ≡ Some x)
-  left_other q x is =
-      elim (keys_cases q k) [
-        | inl same ↦ absurd (not_none x (sym is ∙ fin.get-remove key_total s.frames k q ∙ cond-true _ None (fin.get s.frames q) (key_is q k same)))
-        | inr other ↦ (other, sym (fin.get-remove key_total s.frames k q ∙ cond-false _ None (fin.get s.frames q) (key_is_not q k other)) ∙ is)
-      ]
+  left_other q x is = remove_cases s.frames k q x is
 
   pub dropped_other : (q : Key) → q ≢ k → fin.get (blocks_of (record { pool = set s.pool n None; frames = fin.remove s.frames k })) q ≡ fin.get (blocks_of s) q
   dropped_other q other =

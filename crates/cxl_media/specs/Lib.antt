@@ -8,6 +8,7 @@ pub mod Index
 pub mod Sim
 pub mod Numbers
 pub mod CellList
+pub mod Zones
 pub mod Pool
 pub mod Chain
 pub mod Inside

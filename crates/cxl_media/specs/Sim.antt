@@ -1,5 +1,5 @@
 -- What the shipped media holds: a frame pool, and the blocks of its index.
-use Rattle.std.specs.Prelude.{◌≡◌, ℕ, ◌+◌, List, map, length, unwrap_or, Option, Some, refl}
+use Rattle.std.specs.Prelude.{◌≡◌, ℕ, ◌+◌, ◌*◌, ◌≤◌, List, map, length, unwrap_or, Option, Some, refl}
 use Rattle.std.specs.Option.{option_map}
 use Rattle.std.specs.Coded.{Coded, code_by, coded×, coded_ℕ, coded_list, coded_option}
 use Rattle.std.specs.FinMap as fin
@@ -9,6 +9,10 @@ use Rattle.cxl_media.specs.Blocks.{Key, key_cmp, Blocks}
 use Rattle.cxl_media.specs.MediaState.{MediaState}
 use Rattle.cxl_media.specs.Table.{Cells, key_at, frames_in}
 use Rattle.cxl_media.specs.Index.{coded_cells}
+use Rattle.std.specs.Vec.{vec_capacity}
+use Rattle.cxl_enc.specs.Limits.{frame_limit}
+use Rattle.cxl_media.specs.Zones.{AreZoned}
+use Rattle.cxl_media.specs.declared.zones.Zones.{Zones}
 
 -- the frames of the pool, and the cells that name those with a block
 pub record Shipped : Type 0 where
@@ -60,3 +64,11 @@ pub record IsSim (s : Sim) (room : ℕ) : Type 0 where
   pub apart : (q r : Key) (n : ℕ) → fin.get s.frames q ≡ Some n → fin.get s.frames r ≡ Some n → q ≡ r
   pub counted : free_count s.pool + fin.len s.frames ≡ length s.pool
   pub size : length s.pool ≡ room
+
+-- and the frames of the blocks stand on the chains of their zones, with two homes and a place for each frame
+pub record IsShipped (pool : Frames) (cells : Cells) (room : ℕ) (zones : Zones) : Type 0 where
+  pub sim : IsSim (sim_of pool cells) room
+  pub zoned : AreZoned (frames_in cells) zones.homes zones.firsts zones.nodes.items
+  pub homes : zones.homes ≡ 2 * room
+  pub places : room ≤ vec_capacity zones.nodes
+  pub small : room ≤ frame_limit

@@ -14,6 +14,7 @@ mod pool;
 mod probe;
 mod roll;
 mod sim_media;
+mod zones;
 
 pub use map_media::MapMedia;
 pub use media::{Full, Media};

@@ -1,16 +1,17 @@
 //! The shipped media: blocks in the frames of a pool.
 
-ghost use Rattle.std.specs.Prelude.{◌≡◌, ◌+◌, ◌%◌, ◌≤◌, ◌↔◌, IsSome, IsTrue, Some, IfOk, IfSome, length};
+ghost use Rattle.std.specs.Prelude.{◌≡◌, ◌+◌, ◌/◌, ◌%◌, ◌^◌, ◌≤◌, ◌↔◌, true, false, IsSome, IsTrue, Some, None, IfOk, IfSome, length};
 ghost use Rattle.std.specs.Option.{option_copied};
 ghost use Rattle.std.specs.FinMap as map;
 ghost use Rattle.cxl_enc.specs.Limits.{frame_limit};
 ghost use Rattle.cxl_media.specs.Pool.{frame_bytes, free_count};
 ghost use Rattle.cxl_media.specs.Blocks.{Key, key_of};
 
-use crate::bytes::{overwrite, read_block, read_zeros};
+use crate::bytes::{is_between, overwrite, read_block, read_zeros};
 use crate::index::Index;
 use crate::media::{Full, Media};
 use crate::roll::{At, Roll};
+use crate::zones::{ZONE_BLOCKS, Zones};
 use crate::{Frame, Pool};
 use cxl_enc::Memory;
 use std::alloc::Global;
@@ -21,10 +22,11 @@ use std::marker::Model;
 pub struct SimMedia {
     pool: Pool,
     index: Index,
+    zones: Zones,
 }
 
 impl Model for SimMedia {
-    ghost use Rattle.cxl_media.specs.Sim.{Shipped, coded_shipped, sim_of, IsSim};
+    ghost use Rattle.cxl_media.specs.Sim.{Shipped, coded_shipped, IsShipped};
 
     ghost Value = { Shipped };
 
@@ -32,14 +34,14 @@ impl Model for SimMedia {
 
     ghost view = { λ m. record { pool = m.pool; cells = m.index.cells } };
 
-    ghost invariant = { λ m. IsSim (sim_of m.pool m.index.cells) m.index.room };
+    ghost invariant = { λ m. IsShipped m.pool m.index.cells m.index.room m.zones };
 }
 
 impl SimMedia {
     ghost use Rattle.std.specs.FinMap as map;
     ghost use Rattle.cxl_media.specs.MediaState.{frame_count};
     ghost use Rattle.cxl_media.specs.Table.{frames_in};
-    ghost use Rattle.cxl_media.specs.Blocks.{scrubbed};
+    ghost use Rattle.cxl_media.specs.Blocks.{is_between, scrubbed};
     ghost use Rattle.cxl_media.specs.Sim.{shipped_blocks};
 
     /// Media without a block and without a frame, until it is powered on. Takes no memory.
@@ -50,6 +52,7 @@ impl SimMedia {
         SimMedia {
             pool: Pool::empty(alloc),
             index: Index::empty(alloc),
+            zones: Zones::empty(alloc),
         }
     }
 
@@ -62,7 +65,8 @@ impl SimMedia {
     {
         let pool = Pool::new(alloc, frames)?;
         let index = Index::new(alloc, frames)?;
-        Ok(SimMedia { pool, index })
+        let zones = Zones::new(alloc, frames)?;
+        Ok(SimMedia { pool, index, zones })
     }
 
     // Seeks each block between two device addresses of an endpoint, and takes out those that there are.
@@ -76,8 +80,51 @@ impl SimMedia {
         for number in from / 256..to / 256 {
             if let Some(place) = self.index.place(ep, number) {
                 let frame = self.index.remove(place);
+                self.zones.remove(frame.number());
                 self.pool.give(frame);
             }
+        }
+    }
+
+    // Goes through the blocks of the zones of one home, and takes out those between two device addresses of an endpoint.
+    fn scrub_zone(&mut self, ep: u32, zone: u64, from: u64, to: u64)
+        requires from { from % 256 ≡ 0 }
+        requires to { to % 256 ≡ 0 }
+        ensures kept { (key : Key) → is_between ep from to key ≡ false → map.get (shipped_blocks self.new) key ≡ map.get (shipped_blocks self.old) key }
+        ensures fewer { (key : Key) → map.get (shipped_blocks self.old) key ≡ None → map.get (shipped_blocks self.new) key ≡ None }
+        ensures gone { (key : Key) → is_between ep from to key ≡ true → key.1 / 2 ^ 20 ≡ zone → map.get (shipped_blocks self.new) key ≡ None }
+        ensures frames { free_count self.new.pool + map.len (shipped_blocks self.new)
+            ≡ free_count self.old.pool + map.len (shipped_blocks self.old) }
+    {
+        let mut at = self.zones.first(ep, zone);
+        for _ in 0..self.index.len() + 1 {
+            if at == 0 {
+                return;
+            }
+            let node = self.zones.node(at - 1);
+            at = node.next;
+            if is_between(node.ep, node.number, ep, from, to) {
+                if let Some(place) = self.index.place(node.ep, node.number) {
+                    let frame = self.index.remove(place);
+                    self.zones.remove(frame.number());
+                    self.pool.give(frame);
+                }
+            }
+        }
+        // A chain has each block once, so its end was met. Where it was not, all blocks are gone through.
+        self.scrub_places(ep, from, to);
+    }
+
+    // Goes through the blocks of the zones between two device addresses of an endpoint, and takes out those between.
+    fn scrub_zones(&mut self, ep: u32, from: u64, to: u64)
+        requires from { from % 256 ≡ 0 }
+        requires to { to % 256 ≡ 0 }
+        ensures blocks { shipped_blocks self.new ≡ scrubbed (shipped_blocks self.old) ep from to }
+        ensures frames { free_count self.new.pool + map.len (shipped_blocks self.new)
+            ≡ free_count self.old.pool + map.len (shipped_blocks self.old) }
+    {
+        for zone in from / 256 / ZONE_BLOCKS..(to / 256 + (ZONE_BLOCKS - 1)) / ZONE_BLOCKS {
+            self.scrub_zone(ep, zone, from, to);
         }
     }
 
@@ -92,6 +139,7 @@ impl SimMedia {
         for place in (0..self.index.len()).rev() {
             if self.index.has_between(place, ep, from, to) {
                 let frame = self.index.remove(place);
+                self.zones.remove(frame.number());
                 self.pool.give(frame);
             }
         }
@@ -155,14 +203,19 @@ impl Media for SimMedia {
             return Err(Full);
         };
         overwrite(self.pool.bytes_mut(&frame), at, bytes);
+        let place = frame.number();
         self.index.add(ep, number, frame);
+        self.zones.add(place, ep, number);
         Ok(())
     }
 
     fn scrub(&mut self, ep: u32, from: u64, to: u64) {
-        // Whichever are fewer: the blocks that there are, or those that there could be between the addresses.
-        if (to - from) / 256 < self.index.len() as u64 {
+        // Whichever are fewer: the blocks that there are, those that there could be between the addresses, or the zones.
+        let blocks = self.index.len() as u64;
+        if (to - from) / 256 < blocks {
             self.scrub_blocks(ep, from, to);
+        } else if (to - from) / 256 / ZONE_BLOCKS < blocks {
+            self.scrub_zones(ep, from, to);
         } else {
             self.scrub_places(ep, from, to);
         }

@@ -8,4 +8,4 @@ use Rattle.cxl_media.proofs.sim_media.SimMedia.pool.Goals as goal
 
 pub returns-clause-total : goal.returns-clause-total
 returns-clause-total c =
-    omega (arith, c.self.invariant.counted, ap (λ (s : Sim). free_count s.pool) (sim_view _ _ _ c.self.view_is), ap (λ (s : Sim). len s.frames) (sim_view _ _ _ c.self.view_is), len_blocks (sim_of c.args.self.now.pool c.args.self.now.cells))
+    omega (arith, c.self.invariant.sim.counted, ap (λ (s : Sim). free_count s.pool) (sim_view _ _ _ c.self.view_is), ap (λ (s : Sim). len s.frames) (sim_view _ _ _ c.self.view_is), len_blocks (sim_of c.args.self.now.pool c.args.self.now.cells))
