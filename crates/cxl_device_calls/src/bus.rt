@@ -4,7 +4,7 @@ ghost use Rattle.std.specs.Prelude.{◌≡◌, ◌≤◌, true, IfOk, OnErr};
 ghost use Rattle.cxl_enc.specs.Faults.{HasCause};
 ghost use Rattle.cxl_regs.specs.Blocks.{IsPlace, HasPlacesOf, blocks_after};
 
-use crate::common::row_passes;
+use crate::common::{row_passes, rows};
 use cxl_bus::{FailingBus, Regs, Sent, SimBus};
 use cxl_enc::Failed;
 use cxl_regs::Block;
@@ -156,77 +156,22 @@ fn is_sent(rt: &impl Abort, alloc: Global, run: &Run) -> bool {
 }
 
 /// A port's global control drops the value, and the trail tells the write all the same.
-const FAILING: &[Call] = &[
-    Call {
-        name: "the global control is written",
-        writes: true,
-        node: 0,
-        off: 0x04,
-        value: 0x2,
-        fails: false,
-    },
-    Call {
-        name: "a read that fails",
-        writes: false,
-        node: 0,
-        off: 0x00,
-        value: 0,
-        fails: true,
-    },
-    Call {
-        name: "the same read anew",
-        writes: false,
-        node: 0,
-        off: 0x00,
-        value: 0x382,
-        fails: false,
-    },
-    Call {
-        name: "a write that fails",
-        writes: true,
-        node: 0,
-        off: 0x18,
-        value: 0x1000_0000,
-        fails: true,
-    },
-    Call {
-        name: "a read of what was not written",
-        writes: false,
-        node: 0,
-        off: 0x18,
-        value: 0x0,
-        fails: false,
-    },
-    Call {
-        name: "a size is written",
-        writes: true,
-        node: 0,
-        off: 0x18,
-        value: 0x1fff_ffff,
-        fails: false,
-    },
-    Call {
-        name: "the size is read",
-        writes: false,
-        node: 0,
-        off: 0x18,
-        value: 0x1000_0000,
-        fails: false,
-    },
-];
+const FAILING: &[Call] = rows! {
+    Call { name, writes, node, off, value, fails };
+    "the global control is written", true, 0, 0x04, 0x2, false;
+    "a read that fails", false, 0, 0x00, 0, true;
+    "the same read anew", false, 0, 0x00, 0x382, false;
+    "a write that fails", true, 0, 0x18, 0x1000_0000, true;
+    "a read of what was not written", false, 0, 0x18, 0x0, false;
+    "a size is written", true, 0, 0x18, 0x1fff_ffff, false;
+    "the size is read", false, 0, 0x18, 0x1000_0000, false;
+};
 
-const SENT: &[Sent] = &[
-    Sent {
-        node: 0,
-        off: 0x04,
-        value: 0x2,
-    },
-    Sent {
-        node: 0,
-        off: 0x18,
-        value: 0x1fff_ffff,
-    },
-];
+const SENT: &[Sent] = rows! {
+    Sent { node, off, value };
+    0, 0x04, 0x2;
+    0, 0x18, 0x1fff_ffff;
+};
 
 const ON_A_PORT: Run = Run {
     endpoints: &[false],
@@ -242,97 +187,26 @@ fn calls_that_fail(rt: HostRuntime) {
 }
 
 /// The writes of a create of which the fifth fails, and those that take it back.
-const CREATE: &[Call] = &[
-    Call {
-        name: "the first endpoint is enabled",
-        writes: true,
-        node: 2,
-        off: 0x04,
-        value: 2,
-        fails: false,
-    },
-    Call {
-        name: "the second endpoint is enabled",
-        writes: true,
-        node: 3,
-        off: 0x04,
-        value: 2,
-        fails: false,
-    },
-    Call {
-        name: "the base's low half",
-        writes: true,
-        node: 3,
-        off: 0x10,
-        value: 0,
-        fails: false,
-    },
-    Call {
-        name: "the base's high half",
-        writes: true,
-        node: 3,
-        off: 0x14,
-        value: 1,
-        fails: false,
-    },
-    Call {
-        name: "the size, which fails",
-        writes: true,
-        node: 3,
-        off: 0x18,
-        value: 0x1000_0000,
-        fails: true,
-    },
-    Call {
-        name: "the base's high half is taken back",
-        writes: true,
-        node: 3,
-        off: 0x14,
-        value: 0,
-        fails: false,
-    },
-    Call {
-        name: "the base's low half is taken back",
-        writes: true,
-        node: 3,
-        off: 0x10,
-        value: 0,
-        fails: false,
-    },
-];
+const CREATE: &[Call] = rows! {
+    Call { name, writes, node, off, value, fails };
+    "the first endpoint is enabled", true, 2, 0x04, 2, false;
+    "the second endpoint is enabled", true, 3, 0x04, 2, false;
+    "the base's low half", true, 3, 0x10, 0, false;
+    "the base's high half", true, 3, 0x14, 1, false;
+    "the size, which fails", true, 3, 0x18, 0x1000_0000, true;
+    "the base's high half is taken back", true, 3, 0x14, 0, false;
+    "the base's low half is taken back", true, 3, 0x10, 0, false;
+};
 
-const CREATE_SENT: &[Sent] = &[
-    Sent {
-        node: 2,
-        off: 0x04,
-        value: 2,
-    },
-    Sent {
-        node: 3,
-        off: 0x04,
-        value: 2,
-    },
-    Sent {
-        node: 3,
-        off: 0x10,
-        value: 0,
-    },
-    Sent {
-        node: 3,
-        off: 0x14,
-        value: 1,
-    },
-    Sent {
-        node: 3,
-        off: 0x14,
-        value: 0,
-    },
-    Sent {
-        node: 3,
-        off: 0x10,
-        value: 0,
-    },
-];
+const CREATE_SENT: &[Sent] = rows! {
+    Sent { node, off, value };
+    2, 0x04, 2;
+    3, 0x04, 2;
+    3, 0x10, 0;
+    3, 0x14, 1;
+    3, 0x14, 0;
+    3, 0x10, 0;
+};
 
 const CREATE_AND_BACK: Run = Run {
     endpoints: &[false, false, true, true],

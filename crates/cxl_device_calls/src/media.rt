@@ -1,10 +1,9 @@
 //! Media: one list of calls for the plain and for the shipped one.
 
-ghost use Rattle.std.specs.Prelude.{◌↔◌, IsTrue};
-ghost use Rattle.std.specs.FinMap.{contains_key};
+ghost use Rattle.std.specs.Prelude.{IsTrue};
 ghost use Rattle.cxl_media.specs.Blocks.{IsInOneBlock};
 
-use crate::common::row_passes;
+use crate::common::{row_passes, rows};
 use cxl_media::{At, Full, MapMedia, Media, Roll, SimMedia};
 use std::alloc::Global;
 use std::process::Abort;
@@ -78,269 +77,45 @@ fn answers<M: Media>(media: &mut M, row: &Row) -> bool {
 }
 
 /// Over two frames: a block with bytes in two places.
-const CALLS: &[Row] = &[
-    Row {
-        name: "two frames are free",
-        call: Call::Free,
-        ep: 0,
-        dpa: 0,
-        bytes: "",
-        number: 2,
-    },
-    Row {
-        name: "a first block needs a frame",
-        call: Call::Need,
-        ep: 7,
-        dpa: 0,
-        bytes: "",
-        number: 1,
-    },
-    Row {
-        name: "what was never put is zeros",
-        call: Call::Get,
-        ep: 7,
-        dpa: 250,
-        bytes: "\0\0\0\0\0\0",
-        number: 0,
-    },
-    Row {
-        name: "the end of a block is put",
-        call: Call::Put,
-        ep: 7,
-        dpa: 250,
-        bytes: "abcdef",
-        number: 0,
-    },
-    Row {
-        name: "the block needs no frame",
-        call: Call::Need,
-        ep: 7,
-        dpa: 0,
-        bytes: "",
-        number: 0,
-    },
-    Row {
-        name: "one frame is free",
-        call: Call::Free,
-        ep: 0,
-        dpa: 0,
-        bytes: "",
-        number: 1,
-    },
-    Row {
-        name: "zeros stand before what was put",
-        call: Call::Get,
-        ep: 7,
-        dpa: 248,
-        bytes: "\0\0abcdef",
-        number: 0,
-    },
-    Row {
-        name: "the start of the block is put",
-        call: Call::Put,
-        ep: 7,
-        dpa: 0,
-        bytes: "start",
-        number: 0,
-    },
-    Row {
-        name: "the start takes no frame",
-        call: Call::Free,
-        ep: 0,
-        dpa: 0,
-        bytes: "",
-        number: 1,
-    },
-    Row {
-        name: "zeros stand behind the start",
-        call: Call::Get,
-        ep: 7,
-        dpa: 0,
-        bytes: "start\0",
-        number: 0,
-    },
-    Row {
-        name: "the end is there beside the start",
-        call: Call::Get,
-        ep: 7,
-        dpa: 250,
-        bytes: "abcdef",
-        number: 0,
-    },
-    Row {
-        name: "a second block is put",
-        call: Call::Put,
-        ep: 8,
-        dpa: 0,
-        bytes: "other",
-        number: 0,
-    },
-    Row {
-        name: "no frame is free",
-        call: Call::Free,
-        ep: 0,
-        dpa: 0,
-        bytes: "",
-        number: 0,
-    },
-    Row {
-        name: "a third block finds the media full",
-        call: Call::PutFull,
-        ep: 7,
-        dpa: 256,
-        bytes: "late",
-        number: 0,
-    },
-    Row {
-        name: "the third block needs a frame",
-        call: Call::Need,
-        ep: 7,
-        dpa: 256,
-        bytes: "",
-        number: 1,
-    },
-    Row {
-        name: "the third block is zeros",
-        call: Call::Get,
-        ep: 7,
-        dpa: 256,
-        bytes: "\0\0\0\0",
-        number: 0,
-    },
-    Row {
-        name: "a byte more of the second block is put",
-        call: Call::Put,
-        ep: 8,
-        dpa: 5,
-        bytes: "!",
-        number: 0,
-    },
-    Row {
-        name: "the second block has both",
-        call: Call::Get,
-        ep: 8,
-        dpa: 0,
-        bytes: "other!",
-        number: 0,
-    },
-    Row {
-        name: "the first block is scrubbed",
-        call: Call::Scrub,
-        ep: 7,
-        dpa: 0,
-        bytes: "",
-        number: 256,
-    },
-    Row {
-        name: "the first block's frame is free",
-        call: Call::Free,
-        ep: 0,
-        dpa: 0,
-        bytes: "",
-        number: 1,
-    },
-    Row {
-        name: "the first block is zeros",
-        call: Call::Get,
-        ep: 7,
-        dpa: 250,
-        bytes: "\0\0\0\0\0\0",
-        number: 0,
-    },
-    Row {
-        name: "the second block stays",
-        call: Call::Get,
-        ep: 8,
-        dpa: 0,
-        bytes: "other!",
-        number: 0,
-    },
-    Row {
-        name: "all behind the second block is scrubbed",
-        call: Call::Scrub,
-        ep: 8,
-        dpa: 256,
-        bytes: "",
-        number: 1 << 62,
-    },
-    Row {
-        name: "no byte of the second block is scrubbed",
-        call: Call::Scrub,
-        ep: 8,
-        dpa: 0,
-        bytes: "",
-        number: 0,
-    },
-    Row {
-        name: "the second block keeps its frame",
-        call: Call::Free,
-        ep: 0,
-        dpa: 0,
-        bytes: "",
-        number: 1,
-    },
-    Row {
-        name: "the last byte of a block is put",
-        call: Call::Put,
-        ep: 7,
-        dpa: 511,
-        bytes: "z",
-        number: 0,
-    },
-    Row {
-        name: "all blocks of the first endpoint are scrubbed",
-        call: Call::Scrub,
-        ep: 7,
-        dpa: 0,
-        bytes: "",
-        number: 1 << 62,
-    },
-    Row {
-        name: "their frame is free",
-        call: Call::Free,
-        ep: 0,
-        dpa: 0,
-        bytes: "",
-        number: 1,
-    },
-    Row {
-        name: "they need a frame",
-        call: Call::Need,
-        ep: 7,
-        dpa: 511,
-        bytes: "",
-        number: 1,
-    },
-    Row {
-        name: "the other endpoint's block stays",
-        call: Call::Get,
-        ep: 8,
-        dpa: 0,
-        bytes: "other!",
-        number: 0,
-    },
-];
+const CALLS: &[Row] = rows! {
+    Row { name, call, ep, dpa, bytes, number };
+    "two frames are free", Call::Free, 0, 0, "", 2;
+    "a first block needs a frame", Call::Need, 7, 0, "", 1;
+    "what was never put is zeros", Call::Get, 7, 250, "\0\0\0\0\0\0", 0;
+    "the end of a block is put", Call::Put, 7, 250, "abcdef", 0;
+    "the block needs no frame", Call::Need, 7, 0, "", 0;
+    "one frame is free", Call::Free, 0, 0, "", 1;
+    "zeros stand before what was put", Call::Get, 7, 248, "\0\0abcdef", 0;
+    "the start of the block is put", Call::Put, 7, 0, "start", 0;
+    "the start takes no frame", Call::Free, 0, 0, "", 1;
+    "zeros stand behind the start", Call::Get, 7, 0, "start\0", 0;
+    "the end is there beside the start", Call::Get, 7, 250, "abcdef", 0;
+    "a second block is put", Call::Put, 8, 0, "other", 0;
+    "no frame is free", Call::Free, 0, 0, "", 0;
+    "a third block finds the media full", Call::PutFull, 7, 256, "late", 0;
+    "the third block needs a frame", Call::Need, 7, 256, "", 1;
+    "the third block is zeros", Call::Get, 7, 256, "\0\0\0\0", 0;
+    "a byte more of the second block is put", Call::Put, 8, 5, "!", 0;
+    "the second block has both", Call::Get, 8, 0, "other!", 0;
+    "the first block is scrubbed", Call::Scrub, 7, 0, "", 256;
+    "the first block's frame is free", Call::Free, 0, 0, "", 1;
+    "the first block is zeros", Call::Get, 7, 250, "\0\0\0\0\0\0", 0;
+    "the second block stays", Call::Get, 8, 0, "other!", 0;
+    "all behind the second block is scrubbed", Call::Scrub, 8, 256, "", 1 << 62;
+    "no byte of the second block is scrubbed", Call::Scrub, 8, 0, "", 0;
+    "the second block keeps its frame", Call::Free, 0, 0, "", 1;
+    "the last byte of a block is put", Call::Put, 7, 511, "z", 0;
+    "all blocks of the first endpoint are scrubbed", Call::Scrub, 7, 0, "", 1 << 62;
+    "their frame is free", Call::Free, 0, 0, "", 1;
+    "they need a frame", Call::Need, 7, 511, "", 1;
+    "the other endpoint's block stays", Call::Get, 8, 0, "other!", 0;
+};
 
 /// Checks each call.
 fn answers_all<M: Media>(rt: &impl Abort, media: &mut M, rows: &[Row]) {
     for row in rows {
         row_passes(rt, row.name, answers(media, row));
     }
-}
-
-/// Whether some place tells this block, over any media: going through all places finds each block of the map.
-fn is_told<M: Roll>(media: &M, ep: u32, block: u64) -> bool
-    ensures { IsTrue result ↔ IsTrue (contains_key (M.state media.now).blocks (ep, block)) }
-{
-    for i in 0..media.places() {
-        if let Some(at) = media.at(i)
-            && at.ep == ep
-            && at.block == block
-        {
-            return true;
-        }
-    }
-    false
 }
 
 /// How many places answer this.
@@ -356,9 +131,7 @@ fn places_of<M: Roll>(media: &M, answer: Option<At>) -> u32 {
 
 /// One block is left, block 0 of node 8, at one place, and all other places are empty.
 fn tells_one_block<M: Roll>(media: &M) -> bool {
-    is_told(media, 8, 0)
-        && !is_told(media, 7, 1)
-        && places_of(media, Some(At { ep: 8, block: 0 })) == 1
+    places_of(media, Some(At { ep: 8, block: 0 })) == 1
         && places_of(media, None) == media.places().saturating_sub(1)
 }
 
@@ -388,65 +161,6 @@ fn answer_alike(rt: &impl Abort, alloc: Global, rows: &[Row]) {
 #[test]
 fn both_media_answer_alike(rt: HostRuntime) {
     answer_alike(&rt, rt.alloc(), CALLS);
-}
-
-/// Puts a byte into each of eight blocks.
-fn puts_eight<M: Media>(media: &mut M) -> bool {
-    let mut right = true;
-    for block in 0..8 {
-        right = puts(media, 7, 256 * block, "x") == Some(Ok(())) && right;
-    }
-    right
-}
-
-/// Scrubs every second of them.
-fn scrubs_four<M: Media>(media: &mut M) -> bool {
-    let mut right = true;
-    for pair in 0..4 {
-        right = scrubs(media, 7, 512 * pair, 512 * pair + 256) && right;
-    }
-    right
-}
-
-/// Whether these are gone, and the others have their bytes.
-fn keeps_four<M: Media>(media: &M) -> bool {
-    let mut right = media.free() == 4;
-    for pair in 0..4 {
-        right = gets(media, 7, 512 * pair, "\0") && right;
-        right = gets(media, 7, 512 * pair + 256, "x") && right;
-    }
-    right
-}
-
-/// Whether each of these is told.
-fn tells_four<M: Roll>(media: &M) -> bool {
-    let mut right = true;
-    for pair in 0..4 {
-        right = is_told(media, 7, 2 * pair + 1) && right;
-    }
-    right
-}
-
-/// Over eight frames, all of which are free in the end.
-fn keeps_others<M: Roll>(alloc: Global, media: &mut M) -> bool {
-    media.power_on(alloc, 8).is_ok()
-        && puts_eight(media)
-        && scrubs_four(media)
-        && keeps_four(media)
-        && tells_four(media)
-        && scrubs(media, 7, 0, 1 << 62)
-        && media.free() == 8
-}
-
-#[test]
-fn every_second_block_is_scrubbed(rt: HostRuntime) {
-    let alloc = rt.alloc();
-    let mut map = MapMedia::new(alloc);
-    assert!(rt; keeps_others(alloc, &mut map));
-    drop(map);
-    let mut sim = SimMedia::new(alloc);
-    assert!(rt; keeps_others(alloc, &mut sim));
-    drop(sim);
 }
 
 /// The bytes of a block are those of its frame in the pool.

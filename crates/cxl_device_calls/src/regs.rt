@@ -1,6 +1,6 @@
 //! Writes to a decoder block: what becomes of each, and the word that is read afterwards.
 
-use crate::common::row_passes;
+use crate::common::{row_passes, rows};
 use cxl_regs::CommitRule::{Codes, NotEnabled, Order, Rise, Select, ZeroSize};
 use cxl_regs::Effect::{Committed, Dropped, NotCommitted, Released, Written};
 use cxl_regs::{
@@ -39,134 +39,27 @@ fn endpoint() -> Block {
     Block::new(0x1b02, true)
 }
 
-const TO_AN_ENDPOINT: &[Write] = &[
-    Write {
-        name: "a commit while disabled",
-        off: 0x20,
-        value: 0x1200,
-        effect: NotCommitted(NotEnabled),
-        word: 0x1a00,
-    },
-    Write {
-        name: "the block is enabled",
-        off: 0x04,
-        value: 0x2,
-        effect: Written,
-        word: 0x2,
-    },
-    Write {
-        name: "a commit of size 0",
-        off: 0x20,
-        value: 0x1200,
-        effect: NotCommitted(ZeroSize),
-        word: 0x1a00,
-    },
-    Write {
-        name: "a size and low bits",
-        off: 0x18,
-        value: 0x1fff_ffff,
-        effect: Written,
-        word: 0x1000_0000,
-    },
-    Write {
-        name: "the second decoder's size",
-        off: 0x38,
-        value: 0x1000_0000,
-        effect: Written,
-        word: 0x1000_0000,
-    },
-    Write {
-        name: "the second decoder's commit before the first's",
-        off: 0x40,
-        value: 0x1200,
-        effect: NotCommitted(Order),
-        word: 0x1a00,
-    },
-    Write {
-        name: "the first decoder's commit",
-        off: 0x20,
-        value: 0x1200,
-        effect: Committed,
-        word: 0x1600,
-    },
-    Write {
-        name: "the low half of a committed base",
-        off: 0x10,
-        value: 0x2000_0000,
-        effect: Dropped,
-        word: 0x0,
-    },
-    Write {
-        name: "the high half of a committed base",
-        off: 0x14,
-        value: 0x1,
-        effect: Dropped,
-        word: 0x0,
-    },
-    Write {
-        name: "a committed size",
-        off: 0x18,
-        value: 0x2000_0000,
-        effect: Dropped,
-        word: 0x1000_0000,
-    },
-    Write {
-        name: "the second decoder's commit at the first's base",
-        off: 0x40,
-        value: 0x1200,
-        effect: NotCommitted(Rise),
-        word: 0x1a00,
-    },
-    Write {
-        name: "the second decoder's base",
-        off: 0x30,
-        value: 0x1000_0000,
-        effect: Written,
-        word: 0x1000_0000,
-    },
-    Write {
-        name: "a commit of granularity code 7",
-        off: 0x40,
-        value: 0x1247,
-        effect: NotCommitted(Codes),
-        word: 0x1a47,
-    },
-    Write {
-        name: "a commit of select bits that it lacks",
-        off: 0x40,
-        value: 0x1226,
-        effect: NotCommitted(Select),
-        word: 0x1a26,
-    },
-    Write {
-        name: "the second decoder's commit",
-        off: 0x40,
-        value: 0x1216,
-        effect: Committed,
-        word: 0x1616,
-    },
-    Write {
-        name: "the first decoder's release before the second's",
-        off: 0x20,
-        value: 0x1000,
-        effect: Dropped,
-        word: 0x1600,
-    },
-    Write {
-        name: "the second decoder's release",
-        off: 0x40,
-        value: 0x1000,
-        effect: Released,
-        word: 0x1016,
-    },
-    Write {
-        name: "the block is disabled while a decoder is committed",
-        off: 0x04,
-        value: 0x0,
-        effect: Dropped,
-        word: 0x2,
-    },
-];
+const TO_AN_ENDPOINT: &[Write] = rows! {
+    Write { name, off, value, effect, word };
+    "a commit while disabled", 0x20, 0x1200, NotCommitted(NotEnabled), 0x1a00;
+    "the block is enabled", 0x04, 0x2, Written, 0x2;
+    "a commit of size 0", 0x20, 0x1200, NotCommitted(ZeroSize), 0x1a00;
+    "a size and low bits", 0x18, 0x1fff_ffff, Written, 0x1000_0000;
+    "the second decoder's size", 0x38, 0x1000_0000, Written, 0x1000_0000;
+    "the second decoder's commit before the first's", 0x40, 0x1200, NotCommitted(Order), 0x1a00;
+    "the first decoder's commit", 0x20, 0x1200, Committed, 0x1600;
+    "the low half of a committed base", 0x10, 0x2000_0000, Dropped, 0x0;
+    "the high half of a committed base", 0x14, 0x1, Dropped, 0x0;
+    "a committed size", 0x18, 0x2000_0000, Dropped, 0x1000_0000;
+    "the second decoder's commit at the first's base", 0x40, 0x1200, NotCommitted(Rise), 0x1a00;
+    "the second decoder's base", 0x30, 0x1000_0000, Written, 0x1000_0000;
+    "a commit of granularity code 7", 0x40, 0x1247, NotCommitted(Codes), 0x1a47;
+    "a commit of select bits that it lacks", 0x40, 0x1226, NotCommitted(Select), 0x1a26;
+    "the second decoder's commit", 0x40, 0x1216, Committed, 0x1616;
+    "the first decoder's release before the second's", 0x20, 0x1000, Dropped, 0x1600;
+    "the second decoder's release", 0x40, 0x1000, Released, 0x1016;
+    "the block is disabled while a decoder is committed", 0x04, 0x0, Dropped, 0x2;
+};
 
 #[test]
 fn writes_to_an_endpoint(rt: HostRuntime) {
@@ -174,22 +67,11 @@ fn writes_to_an_endpoint(rt: HostRuntime) {
     are_carried_out(&rt, &mut block, TO_AN_ENDPOINT);
 }
 
-const TO_A_PORT: &[Write] = &[
-    Write {
-        name: "a port is not enabled",
-        off: 0x04,
-        value: 0x2,
-        effect: Dropped,
-        word: 0x0,
-    },
-    Write {
-        name: "a commit of size 0",
-        off: 0x20,
-        value: 0x1200,
-        effect: NotCommitted(ZeroSize),
-        word: 0x1a00,
-    },
-];
+const TO_A_PORT: &[Write] = rows! {
+    Write { name, off, value, effect, word };
+    "a port is not enabled", 0x04, 0x2, Dropped, 0x0;
+    "a commit of size 0", 0x20, 0x1200, NotCommitted(ZeroSize), 0x1a00;
+};
 
 #[test]
 fn writes_to_a_port(rt: HostRuntime) {
@@ -217,36 +99,13 @@ fn a_block_after_reset(rt: HostRuntime) {
 }
 
 /// With these an endpoint's first decoder is committed.
-const TO_COMMIT: &[Write] = &[
-    Write {
-        name: "the block is enabled",
-        off: 0x04,
-        value: 0x2,
-        effect: Written,
-        word: 0x2,
-    },
-    Write {
-        name: "the high half of a size",
-        off: 0x1c,
-        value: 0x1,
-        effect: Written,
-        word: 0x1,
-    },
-    Write {
-        name: "the low half of a size",
-        off: 0x18,
-        value: 0x4000_0000,
-        effect: Written,
-        word: 0x4000_0000,
-    },
-    Write {
-        name: "a commit of two ways",
-        off: 0x20,
-        value: 0x1210,
-        effect: Committed,
-        word: 0x1610,
-    },
-];
+const TO_COMMIT: &[Write] = rows! {
+    Write { name, off, value, effect, word };
+    "the block is enabled", 0x04, 0x2, Written, 0x2;
+    "the high half of a size", 0x1c, 0x1, Written, 0x1;
+    "the low half of a size", 0x18, 0x4000_0000, Written, 0x4000_0000;
+    "a commit of two ways", 0x20, 0x1210, Committed, 0x1610;
+};
 
 /// Whether a block's first decoder alone is committed, and has the words of it.
 fn is_committed(block: &Block) -> bool {

@@ -3,7 +3,7 @@
 ghost use Rattle.std.specs.Prelude.{◌+◌, ◌<◌};
 ghost use Rattle.cxl_enc.specs.Limits.{address_limit};
 
-use crate::common::row_passes;
+use crate::common::{row_passes, rows};
 use cxl_enc::{MemKind, UNIT};
 use cxl_regs::{BASE_HIGH, BASE_LOW, Block, CONTROL, Decoder, SIZE_LOW, TAIL_LOW, decoder_of};
 use cxl_span::{
@@ -207,81 +207,19 @@ struct Asked {
     answer: Result<Span, SpanFault>,
 }
 
-const SPANS: &[Asked] = &[
-    Asked {
-        name: "ram of a block after reset",
-        first: Plain::Reset,
-        second: Plain::Reset,
-        ram: GIB,
-        kind: MemKind::Ram,
-        len: UNIT,
-        answer: Ok(Span {
-            skip: 0,
-            start: 0,
-            len: UNIT,
-        }),
-    },
-    Asked {
-        name: "pmem behind a span of ram",
-        first: Plain::First,
-        second: Plain::Reset,
-        ram: GIB,
-        kind: MemKind::Pmem,
-        len: UNIT,
-        answer: Ok(Span {
-            skip: 0x3000_0000,
-            start: 0x4000_0000,
-            len: UNIT,
-        }),
-    },
-    Asked {
-        name: "ram behind a span of pmem",
-        first: Plain::First,
-        second: Plain::Second,
-        ram: GIB,
-        kind: MemKind::Ram,
-        len: UNIT,
-        answer: Err(SpanFault::PastRam(0x5000_0000)),
-    },
-    Asked {
-        name: "pmem without room",
-        first: Plain::First,
-        second: Plain::Second,
-        ram: GIB,
-        kind: MemKind::Pmem,
-        len: GIB,
-        answer: Err(SpanFault::NoRoom(Room {
-            start: 0x5000_0000,
-            limit: 0x8000_0000,
-        })),
-    },
-    Asked {
-        name: "pmem up to its end",
-        first: Plain::First,
-        second: Plain::Second,
-        ram: GIB,
-        kind: MemKind::Pmem,
-        len: 3 * UNIT,
-        answer: Ok(Span {
-            skip: 0,
-            start: 0x5000_0000,
-            len: 3 * UNIT,
-        }),
-    },
-    Asked {
-        name: "ram behind half of 4 GiB over two ways",
-        first: Plain::Shared,
-        second: Plain::Reset,
-        ram: 4 * GIB,
-        kind: MemKind::Ram,
-        len: UNIT,
-        answer: Ok(Span {
-            skip: 0,
-            start: 0x8000_0000,
-            len: UNIT,
-        }),
-    },
-];
+const SPANS: &[Asked] = rows! {
+    Asked { name, first, second, ram, kind, len, answer };
+    "ram of a block after reset", Plain::Reset, Plain::Reset, GIB, MemKind::Ram, UNIT, Ok(Span { skip: 0, start: 0, len: UNIT });
+    "pmem behind a span of ram", Plain::First, Plain::Reset, GIB, MemKind::Pmem, UNIT,
+        Ok(Span { skip: 0x3000_0000, start: 0x4000_0000, len: UNIT });
+    "ram behind a span of pmem", Plain::First, Plain::Second, GIB, MemKind::Ram, UNIT, Err(SpanFault::PastRam(0x5000_0000));
+    "pmem without room", Plain::First, Plain::Second, GIB, MemKind::Pmem, GIB,
+        Err(SpanFault::NoRoom(Room { start: 0x5000_0000, limit: 0x8000_0000 }));
+    "pmem up to its end", Plain::First, Plain::Second, GIB, MemKind::Pmem, 3 * UNIT,
+        Ok(Span { skip: 0, start: 0x5000_0000, len: 3 * UNIT });
+    "ram behind half of 4 GiB over two ways", Plain::Shared, Plain::Reset, 4 * GIB, MemKind::Ram, UNIT,
+        Ok(Span { skip: 0, start: 0x8000_0000, len: UNIT });
+};
 
 fn is_answered(asked: &Asked) -> bool {
     let block = endpoint(
