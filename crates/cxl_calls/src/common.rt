@@ -6,6 +6,14 @@ use std::alloc::Global;
 use std::fmt::{Debug, Display};
 use std::process::Abort;
 
+/// A table of structs: the type with its fields, and then a row a line, whose values stand in the order of these.
+macro_rules! rows {
+    (@row $type:ident { $($field:ident),+ } $($value:expr),+) => { $type { $($field: $value),+ } };
+    ($type:ident $fields:tt; $($($value:expr),+;)+) => { &[$(rows!(@row $type $fields $($value),+)),+] };
+}
+
+pub(crate) use rows;
+
 /// A list of these.
 pub fn list<T: Copy>(rt: &(impl Abort + AllocGlobal), items: &[T]) -> Vec<T> {
     Vec::from_slice(rt.alloc(), items).expect(rt, "memory")

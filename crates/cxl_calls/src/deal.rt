@@ -1,6 +1,6 @@
 //! How a region's bytes are dealt over its slots, and gathered back.
 
-use crate::common::row_passes;
+use crate::common::{row_passes, rows};
 use cxl_deal::{
     Dealt, Weave, chunks_deal_whole, deal, gather, place_tells_address, region_fills_slots,
     slot_digits, slots_keep_entries, slots_keep_positions,
@@ -25,32 +25,11 @@ struct Row {
 }
 
 /// Two of many; the others stand in `worked/`.
-const ROWS: &[Row] = &[
-    Row {
-        name: "three ways, a last byte",
-        base: 0x1_0000_0000,
-        root_bits: 0,
-        third: true,
-        low_bits: 0,
-        map: 0,
-        other_map: 0,
-        h: 0x1_2fff_ffff,
-        slot: 2,
-        offset: 0xfff_ffff,
-    },
-    Row {
-        name: "four ways by XOR, bit 12 of map 1",
-        base: 0x1_0000_0000,
-        root_bits: 2,
-        third: false,
-        low_bits: 0,
-        map: 0x2100,
-        other_map: 0x1200,
-        h: 0x1_0000_1000,
-        slot: 2,
-        offset: 0x400,
-    },
-];
+const ROWS: &[Row] = rows! {
+    Row { name, base, root_bits, third, low_bits, map, other_map, h, slot, offset };
+    "three ways, a last byte", 0x1_0000_0000, 0, true, 0, 0, 0, 0x1_2fff_ffff, 2, 0xfff_ffff;
+    "four ways by XOR, bit 12 of map 1", 0x1_0000_0000, 2, false, 0, 0x2100, 0x1200, 0x1_0000_1000, 2, 0x400;
+};
 
 /// The weave of a row.
 fn weave(row: &Row) -> Option<Weave> {

@@ -1,6 +1,6 @@
 //! Codes, names, capability words, lists and calls that fail.
 
-use crate::common::{list, row_passes};
+use crate::common::{list, row_passes, rows};
 use cxl_enc::{
     Caps, Factors, FailingCalls, FixedList, Name, cap_word, code_of, gran_code, gran_of, legal_cap,
     split, ways_of,
@@ -15,80 +15,21 @@ struct Code {
     bytes: u32,
 }
 
-const CODES: &[Code] = &[
-    Code {
-        name: "one way, 256 bytes",
-        code: 0,
-        ways: 1,
-        bytes: 256,
-    },
-    Code {
-        name: "two ways, 512 bytes",
-        code: 1,
-        ways: 2,
-        bytes: 512,
-    },
-    Code {
-        name: "four ways, 1 KiB",
-        code: 2,
-        ways: 4,
-        bytes: 1_024,
-    },
-    Code {
-        name: "eight ways, 2 KiB",
-        code: 3,
-        ways: 8,
-        bytes: 2_048,
-    },
-    Code {
-        name: "sixteen ways, 4 KiB",
-        code: 4,
-        ways: 16,
-        bytes: 4_096,
-    },
-    Code {
-        name: "no ways, 8 KiB",
-        code: 5,
-        ways: 0,
-        bytes: 8_192,
-    },
-    Code {
-        name: "no ways, 16 KiB",
-        code: 6,
-        ways: 0,
-        bytes: 16_384,
-    },
-    Code {
-        name: "code 7 of nothing",
-        code: 7,
-        ways: 0,
-        bytes: 0,
-    },
-    Code {
-        name: "three ways",
-        code: 8,
-        ways: 3,
-        bytes: 0,
-    },
-    Code {
-        name: "six ways",
-        code: 9,
-        ways: 6,
-        bytes: 0,
-    },
-    Code {
-        name: "twelve ways",
-        code: 10,
-        ways: 12,
-        bytes: 0,
-    },
-    Code {
-        name: "code 11 of nothing",
-        code: 11,
-        ways: 0,
-        bytes: 0,
-    },
-];
+const CODES: &[Code] = rows! {
+    Code { name, code, ways, bytes };
+    "one way, 256 bytes", 0, 1, 256;
+    "two ways, 512 bytes", 1, 2, 512;
+    "four ways, 1 KiB", 2, 4, 1_024;
+    "eight ways, 2 KiB", 3, 8, 2_048;
+    "sixteen ways, 4 KiB", 4, 16, 4_096;
+    "no ways, 8 KiB", 5, 0, 8_192;
+    "no ways, 16 KiB", 6, 0, 16_384;
+    "code 7 of nothing", 7, 0, 0;
+    "three ways", 8, 3, 0;
+    "six ways", 9, 6, 0;
+    "twelve ways", 10, 12, 0;
+    "code 11 of nothing", 11, 0, 0;
+};
 
 /// The number of ways of a code, and the code of that number.
 fn stands_for(code: u8, ways: u8) -> bool {
@@ -147,33 +88,14 @@ struct Word {
     named: bool,
 }
 
-const WORDS: &[Word] = &[
-    Word {
-        name: "an underscore and digits",
-        word: "e_15",
-        named: true,
-    },
-    Word {
-        name: "fifteen letters",
-        word: "abcdefghijklmno",
-        named: true,
-    },
-    Word {
-        name: "sixteen letters",
-        word: "abcdefghijklmnop",
-        named: false,
-    },
-    Word {
-        name: "an empty word",
-        word: "",
-        named: false,
-    },
-    Word {
-        name: "a hyphen",
-        word: "a-b",
-        named: false,
-    },
-];
+const WORDS: &[Word] = rows! {
+    Word { name, word, named };
+    "an underscore and digits", "e_15", true;
+    "fifteen letters", "abcdefghijklmno", true;
+    "sixteen letters", "abcdefghijklmnop", false;
+    "an empty word", "", false;
+    "a hyphen", "a-b", false;
+};
 
 fn are_names(rt: &impl Abort, rows: &[Word]) {
     for row in rows {
@@ -216,56 +138,17 @@ struct CapWord {
     legal: bool,
 }
 
-const LEGAL: &[CapWord] = &[
-    CapWord {
-        name: "a port",
-        word: 0x382,
-        endpoint: false,
-        legal: true,
-    },
-    CapWord {
-        name: "an endpoint",
-        word: 0x1b02,
-        endpoint: true,
-        legal: true,
-    },
-    CapWord {
-        name: "one decoder with one target",
-        word: 0x10,
-        endpoint: false,
-        legal: true,
-    },
-    CapWord {
-        name: "an endpoint with targets",
-        word: 0x382,
-        endpoint: true,
-        legal: false,
-    },
-    CapWord {
-        name: "a port without targets",
-        word: 0x1b02,
-        endpoint: false,
-        legal: false,
-    },
-    CapWord {
-        name: "bit 10 that no capability has",
-        word: 0x782,
-        endpoint: false,
-        legal: false,
-    },
-    CapWord {
-        name: "a port of sixteen ways",
-        word: 0x1382,
-        endpoint: false,
-        legal: false,
-    },
-    CapWord {
-        name: "decoder count code 6",
-        word: 0x386,
-        endpoint: false,
-        legal: false,
-    },
-];
+const LEGAL: &[CapWord] = rows! {
+    CapWord { name, word, endpoint, legal };
+    "a port", 0x382, false, true;
+    "an endpoint", 0x1b02, true, true;
+    "one decoder with one target", 0x10, false, true;
+    "an endpoint with targets", 0x382, true, false;
+    "a port without targets", 0x1b02, false, false;
+    "bit 10 that no capability has", 0x782, false, false;
+    "a port of sixteen ways", 0x1382, false, false;
+    "decoder count code 6", 0x386, false, false;
+};
 
 fn are_legal(rt: &impl Abort, rows: &[CapWord]) {
     for row in rows {

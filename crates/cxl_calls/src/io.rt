@@ -5,7 +5,7 @@ mod files;
 mod lines;
 mod outside;
 
-use crate::common::{list, prints, repeated, row_passes, shows};
+use crate::common::{list, prints, repeated, row_passes, rows, shows};
 use cxl_io::{
     FetchFault, MemSink, NumFault, Sink, StdSink, put_hex, put_number, read_number, write_all,
 };
@@ -65,68 +65,19 @@ struct Row {
     text: &'static str,
 }
 
-const PRINTED: &[Row] = &[
-    Row {
-        front: "n=",
-        number: 0,
-        width: 0,
-        text: "n=0",
-    },
-    Row {
-        front: "n=",
-        number: 7,
-        width: 0,
-        text: "n=7",
-    },
-    Row {
-        front: "n=",
-        number: 1_048_576,
-        width: 0,
-        text: "n=1048576",
-    },
-    Row {
-        front: "n=",
-        number: u64::MAX,
-        width: 0,
-        text: "n=18446744073709551615",
-    },
-    Row {
-        front: "0x",
-        number: 0,
-        width: 1,
-        text: "0x0",
-    },
-    Row {
-        front: "0x",
-        number: 0,
-        width: 4,
-        text: "0x0000",
-    },
-    Row {
-        front: "0x",
-        number: 31,
-        width: 4,
-        text: "0x001f",
-    },
-    Row {
-        front: "0x",
-        number: 0xab_cdef,
-        width: 2,
-        text: "0xabcdef",
-    },
-    Row {
-        front: "0x",
-        number: u64::MAX,
-        width: 1,
-        text: "0xffffffffffffffff",
-    },
-    Row {
-        front: "0x",
-        number: 9,
-        width: 16,
-        text: "0x0000000000000009",
-    },
-];
+const PRINTED: &[Row] = rows! {
+    Row { front, number, width, text };
+    "n=", 0, 0, "n=0";
+    "n=", 7, 0, "n=7";
+    "n=", 1_048_576, 0, "n=1048576";
+    "n=", u64::MAX, 0, "n=18446744073709551615";
+    "0x", 0, 1, "0x0";
+    "0x", 0, 4, "0x0000";
+    "0x", 31, 4, "0x001f";
+    "0x", 0xab_cdef, 2, "0xabcdef";
+    "0x", u64::MAX, 1, "0xffffffffffffffff";
+    "0x", 9, 16, "0x0000000000000009";
+};
 
 fn puts(text: &mut Vec<u8>, number: u64, width: u8) -> bool {
     if width == 0 {

@@ -19,6 +19,4 @@ mod num;
 #[cfg(test)]
 mod topo;
 #[cfg(test)]
-mod topofile;
-#[cfg(test)]
 mod window;

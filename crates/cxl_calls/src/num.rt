@@ -1,6 +1,6 @@
 //! Numbers of interleaving.
 
-use crate::common::row_passes;
+use crate::common::{row_passes, rows};
 use cxl_enc::Factors;
 use cxl_num::{
     are_usable_maps, checked_end, factor_of, join_thirds, low_bits, parities,
@@ -32,39 +32,16 @@ struct Parity {
     odd: bool,
 }
 
-const PARITIES: &[Parity] = &[
-    Parity {
-        name: "no bit",
-        word: 0,
-        odd: false,
-    },
-    Parity {
-        name: "the lowest bit",
-        word: 1,
-        odd: true,
-    },
-    Parity {
-        name: "two bits",
-        word: 3,
-        odd: false,
-    },
-    Parity {
-        name: "the highest bit",
-        word: 1 << 63,
-        odd: true,
-    },
-    Parity {
-        name: "all bits",
-        word: u64::MAX,
-        odd: false,
-    },
+const PARITIES: &[Parity] = rows! {
+    Parity { name, word, odd };
+    "no bit", 0, false;
+    "the lowest bit", 1, true;
+    "two bits", 3, false;
+    "the highest bit", 1 << 63, true;
+    "all bits", u64::MAX, false;
     // By the worked example of XOR windows.
-    Parity {
-        name: "an address under an XOR map",
-        word: 0x1_0000_4000 & 0x40_4100,
-        odd: true,
-    },
-];
+    "an address under an XOR map", 0x1_0000_4000 & 0x40_4100, true;
+};
 
 fn have_parities(rt: &impl Abort, rows: &[Parity]) {
     for row in rows {
@@ -117,38 +94,14 @@ struct Row {
     end: u64,
 }
 
-const ENDS: &[Row] = &[
-    Row {
-        name: "512 MiB at 4 GiB",
-        base: 0x1_0000_0000,
-        size: 0x2000_0000,
-        end: 0x1_2000_0000,
-    },
-    Row {
-        name: "nothing at 0",
-        base: 0,
-        size: 0,
-        end: 0,
-    },
-    Row {
-        name: "nothing at the last address",
-        base: u64::MAX,
-        size: 0,
-        end: u64::MAX,
-    },
-    Row {
-        name: "one byte at the last address",
-        base: u64::MAX,
-        size: 1,
-        end: 1,
-    },
-    Row {
-        name: "the upper half",
-        base: 1 << 63,
-        size: 1 << 63,
-        end: 1,
-    },
-];
+const ENDS: &[Row] = rows! {
+    Row { name, base, size, end };
+    "512 MiB at 4 GiB", 0x1_0000_0000, 0x2000_0000, 0x1_2000_0000;
+    "nothing at 0", 0, 0, 0;
+    "nothing at the last address", u64::MAX, 0, u64::MAX;
+    "one byte at the last address", u64::MAX, 1, 1;
+    "the upper half", 1 << 63, 1 << 63, 1;
+};
 
 fn ends(base: u64, size: u64, want: u64) -> bool {
     match checked_end(base, size) {

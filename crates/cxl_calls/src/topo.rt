@@ -1,113 +1,49 @@
-//! Trees of nodes: what they tell of a node, and the first fault of nodes that are no tree.
+//! Trees of nodes: those of topology files, what they tell of a node, and the first fault of nodes that no file states. Faults of
+//! files stand in `worked/faults`.
 
-use crate::common::row_passes;
-use cxl_topo::{Capacity, Name, Node, NodeKind, Parent, Path, Topo, TreeFault};
-use std::alloc::Global;
+use crate::common::{row_passes, rows};
+use cxl_topo::{Capacity, Name, Node, NodeKind, Parent, Topo, TreeFault};
+use cxl_topofile::read_topo;
 use std::process::Abort;
 
-/// A node as a test states it.
-#[derive(Clone, Copy)]
-struct Row {
-    name: &'static str,
-    kind: NodeKind,
-    parent: Option<Parent>,
-    cap: u32,
-    forwards: bool,
-}
+/// Two bridges, a switch below the first, and an endpoint below the other.
+const PLAIN: &str = r#"
+[[bridge]]
+name = "hb0"
+uid = 0
+[[bridge]]
+name = "hb1"
+uid = 7
+[[switch]]
+name = "s0"
+parent = "hb0"
+port = 0
+[[endpoint]]
+name = "e0"
+parent = "hb1"
+port = 0
+ram = 0x80000000
+"#;
 
-const BRIDGE: Row = Row {
-    name: "hb0",
-    kind: NodeKind::Bridge(0),
-    parent: None,
-    cap: 0x382,
-    forwards: false,
-};
+/// A bridge that forwards, two switches in the other order of sections, an endpoint, and other values.
+const INLINE: &str = r#"frames = 2
+switch = [{ name = "s0", parent = "hb0", port = 255, targets = 2, decoders = 1, low = false },
+  { name = "s1", parent = "s0", port = 1, high = false, decoders = 10 }]
+bridge = [{ name = "hb0", uid = 4294967295, passthrough = true }]
+endpoint = [{ name = "e0", parent = "s1", port = 0, ways3 = false, ways16 = false, pmem = 0x10000000 }]
+"#;
 
-const OTHER_BRIDGE: Row = Row {
-    name: "hb1",
-    kind: NodeKind::Bridge(7),
-    parent: None,
-    cap: 0x382,
-    forwards: false,
-};
+/// Two bridges of which one forwards, and below the other one a switch that forwards, with an endpoint.
+const FORWARDING: &str = r#"
+bridge = [{ name = "hb0", uid = 0 }, { name = "hb1", uid = 7, passthrough = true }]
+switch = [{ name = "s0", parent = "hb0", port = 1, passthrough = true }]
+endpoint = [{ name = "e0", parent = "s0", port = 9, ram = 0x80000000 }]
+"#;
 
-/// A switch at port 0 of the bridge.
-const SWITCH: Row = Row {
-    name: "s0",
-    kind: NodeKind::Switch,
-    parent: Some(Parent { node: 0, port: 0 }),
-    cap: 0x382,
-    forwards: false,
-};
-
-/// An endpoint at port 0 of the other bridge.
-const ENDPOINT: Row = Row {
-    name: "e0",
-    kind: NodeKind::Endpoint(Capacity {
-        ram: 0x8000_0000,
-        pmem: 0,
-    }),
-    parent: Some(Parent { node: 1, port: 0 }),
-    cap: 0x1b02,
-    forwards: false,
-};
-
-const PLAIN: [Row; 4] = [BRIDGE, OTHER_BRIDGE, SWITCH, ENDPOINT];
-
-/// Two bridges that forward, of which one has a switch that forwards, and below it an endpoint; and a
-/// bridge that decodes.
-const FORWARDING: [Row; 4] = [
-    BRIDGE,
-    Row {
-        cap: 0x10,
-        forwards: true,
-        ..OTHER_BRIDGE
-    },
-    Row {
-        parent: Some(Parent { node: 0, port: 1 }),
-        cap: 0x10,
-        forwards: true,
-        ..SWITCH
-    },
-    Row {
-        parent: Some(Parent { node: 2, port: 9 }),
-        ..ENDPOINT
-    },
-];
-
-fn nodes_of(rt: &impl Abort, alloc: Global, rows: &[Row]) -> Vec<Node> {
-    let mut nodes = Vec::new(alloc);
-    for row in rows {
-        let node = Node {
-            name: Name::read(row.name.as_bytes()).expect(rt, "a name"),
-            kind: row.kind,
-            parent: row.parent,
-            cap: row.cap,
-            forwards: row.forwards,
-        };
-        nodes.push(node).expect(rt, "memory");
-    }
-    nodes
-}
-
-fn tree(rt: &impl Abort, alloc: Global, rows: &[Row]) -> Topo {
-    Topo::new(alloc, nodes_of(rt, alloc, rows), 65_536)
+fn tree(rt: &(impl Abort + AllocGlobal), text: &str) -> Topo {
+    read_topo(rt.alloc(), text.as_bytes())
         .ok()
-        .expect(rt, "a legal tree")
-}
-
-/// Whether the nodes are a tree of so many.
-fn is_tree(rt: &impl Abort, alloc: Global, rows: &[Row], count: u32) -> bool {
-    let topo = tree(rt, alloc, rows);
-    let found = topo.count();
-    drop(topo);
-    found == count
-}
-
-/// Whether the nodes have this fault.
-fn is_fault(rt: &impl Abort, alloc: Global, rows: &[Row], want: TreeFault) -> bool {
-    let nodes = nodes_of(rt, alloc, rows);
-    Topo::new(alloc, nodes, 65_536).err() == Some(want)
+        .expect(rt, "a topology")
 }
 
 fn finds(topo: &Topo, name: &str, node: u32) -> bool {
@@ -117,46 +53,68 @@ fn finds(topo: &Topo, name: &str, node: u32) -> bool {
     }
 }
 
+/// Whether a tree's four nodes have these capability words, and its last one is an endpoint with so many bytes of each kind.
+fn are_four(topo: &Topo, caps: [u32; 4], ram: u64, pmem: u64) -> bool {
+    if topo.count() != 4 {
+        return false;
+    }
+    let first = (topo.node(0).cap, topo.node(1).cap);
+    let last = (topo.node(2).cap, topo.node(3).cap);
+    first == (caps[0], caps[1])
+        && last == (caps[2], caps[3])
+        && topo.node(3).kind == NodeKind::Endpoint(Capacity { ram, pmem })
+}
+
+/// Whether the path of the last of four nodes has so many nodes, which are these.
+fn is_path(topo: &Topo, len: u8, nodes: [u32; 6]) -> bool {
+    if topo.count() != 4 {
+        return false;
+    }
+    let path = topo.path(3);
+    path.len == len && path.nodes == nodes
+}
+
 /// Whether the plain tree's nodes are found.
 fn are_found(topo: &Topo) -> bool {
-    topo.count() == 4
-        && topo.frames() == 65_536
-        && topo.node(3).cap == 0x1b02
+    topo.frames() == 65_536
         && topo.bridge(7) == Some(1)
         && topo.uids() == [0, 7].as_slice()
         && finds(topo, "e0", 3)
 }
 
-/// Whether the plain tree's children are found.
-fn are_children(topo: &Topo) -> bool {
-    topo.count() == 4
-        && topo.child(1, 0) == Some(3)
-        && topo.child(0, 1).is_none()
-        && topo.least_child(0) == Some(2)
-}
-
-/// Whether its nodes are what they are, and the endpoint's path.
+/// Whether its nodes are what they are, and its children are found.
 fn are_said(topo: &Topo) -> bool {
     if topo.count() != 4 {
         return false;
     }
-    let path = topo.path(3);
     let kinds = (topo.is_endpoint(3), topo.is_port(2), topo.forwards(0));
-    let under = (topo.under(1, 3), topo.under(0, 3));
-    kinds == (true, true, false) && under == (true, false) && is_path(&path)
-}
-
-fn is_path(path: &Path) -> bool {
-    path.len == 2 && path.nodes == [1, 3, 0, 0, 0, 0]
+    let children = (topo.child(1, 0), topo.child(0, 1), topo.least_child(0));
+    kinds == (true, true, false)
+        && children == (Some(3), None, Some(2))
+        && (topo.under(1, 3), topo.under(0, 3)) == (true, false)
 }
 
 #[test]
-fn says_what_nodes_are(rt: HostRuntime) {
-    let topo = tree(&rt, rt.alloc(), &PLAIN);
-    assert!(rt; are_found(&topo));
-    assert!(rt; are_children(&topo));
-    assert!(rt; are_said(&topo));
+fn plain(rt: HostRuntime) {
+    let topo = tree(&rt, PLAIN);
+    assert!(rt; are_four(&topo, [0x382, 0x382, 0x382, 0x1b02], 0x8000_0000, 0));
+    assert!(rt; is_path(&topo, 2, [1, 3, 0, 0, 0, 0]));
+    assert!(rt; are_found(&topo) && are_said(&topo));
     drop(topo);
+}
+
+#[test]
+fn other_spelling(rt: HostRuntime) {
+    let topo = tree(&rt, INLINE);
+    assert!(rt; are_four(&topo, [0x10, 0x220, 0x185, 0x302], 0, 0x1000_0000));
+    assert!(rt; is_path(&topo, 4, [0, 1, 2, 3, 0, 0]));
+    assert!(rt; topo.frames() == 2 && topo.bridge(4_294_967_295) == Some(0));
+    drop(topo);
+}
+
+#[test]
+fn no_nodes(rt: HostRuntime) {
+    assert!(rt; tree(&rt, "bridge = []\n").count() == 0);
 }
 
 /// Whether the landings are below what forwards, and the decoding ports above.
@@ -171,81 +129,50 @@ fn are_passed(topo: &Topo) -> bool {
 
 #[test]
 fn passes_what_forwards(rt: HostRuntime) {
-    let topo = tree(&rt, rt.alloc(), &FORWARDING);
+    let topo = tree(&rt, FORWARDING);
     assert!(rt; are_passed(&topo));
     drop(topo);
 }
 
-/// What is changed of a node of the plain tree.
-#[derive(Clone, Copy)]
-enum NodeChange {
-    Parent(u32, u8),
-    Cap(u32),
-    Forwards,
-}
-
-impl Row {
-    fn with(self, change: NodeChange) -> Row {
-        let mut row = self;
-        match change {
-            NodeChange::Parent(node, port) => row.parent = Some(Parent { node, port }),
-            NodeChange::Cap(cap) => row.cap = cap,
-            NodeChange::Forwards => row.forwards = true,
+/// The plain tree's nodes, with this one changed.
+fn changed(rt: &(impl Abort + AllocGlobal), row: &FirstFault) -> Vec<Node> {
+    let topo = tree(rt, PLAIN);
+    let mut nodes = Vec::new(rt.alloc());
+    for i in 0..topo.count() {
+        let mut node = *topo.node(i);
+        if i == row.place {
+            node.parent = row.parent;
+            node.cap = row.cap;
+            node.forwards = row.forwards;
         }
-        row
+        nodes.push(node).expect(rt, "memory");
     }
+    drop(topo);
+    nodes
 }
 
-/// The plain tree with a node changed.
-fn changed(place: usize, change: NodeChange) -> [Row; 4] {
-    let mut rows = PLAIN;
-    if place < 4 {
-        rows[place] = rows[place].with(change);
-    }
-    rows
-}
-
-/// The place of a node that is changed, its change, and the first fault.
+/// The place of a node, its fields as they are changed, and the first fault.
 struct FirstFault {
     name: &'static str,
-    place: usize,
-    change: NodeChange,
+    place: u32,
+    parent: Option<Parent>,
+    cap: u32,
+    forwards: bool,
     fault: TreeFault,
 }
 
 /// What no topology file says; the other faults stand in `worked/faults`.
-const CHANGED: &[FirstFault] = &[
-    FirstFault {
-        name: "a bridge under another node",
-        place: 1,
-        change: NodeChange::Parent(0, 1),
-        fault: TreeFault::NoParent(1),
-    },
-    FirstFault {
-        name: "a bridge with the capability word of an endpoint",
-        place: 0,
-        change: NodeChange::Cap(0x1b02),
-        fault: TreeFault::Caps(0),
-    },
-    FirstFault {
-        name: "an endpoint that forwards",
-        place: 3,
-        change: NodeChange::Forwards,
-        fault: TreeFault::Caps(3),
-    },
-];
-
-fn have_first_faults(rt: &(impl Abort + AllocGlobal), rows: &[FirstFault]) {
-    for row in rows {
-        row_passes(
-            rt,
-            row.name,
-            is_fault(rt, rt.alloc(), &changed(row.place, row.change), row.fault),
-        );
-    }
-}
+const CHANGED: &[FirstFault] = rows! {
+    FirstFault { name, place, parent, cap, forwards, fault };
+    "a bridge under another node", 1, Some(Parent { node: 0, port: 1 }), 0x382, false, TreeFault::NoParent(1);
+    "a bridge with the capability word of an endpoint", 0, None, 0x1b02, false, TreeFault::Caps(0);
+    "an endpoint that forwards", 3, Some(Parent { node: 1, port: 0 }), 0x1b02, true, TreeFault::Caps(3);
+};
 
 #[test]
 fn first_faults(rt: HostRuntime) {
-    have_first_faults(&rt, CHANGED);
+    for row in CHANGED {
+        let fault = Topo::new(rt.alloc(), changed(&rt, row), 65_536).err();
+        row_passes(&rt, row.name, fault == Some(row.fault));
+    }
 }

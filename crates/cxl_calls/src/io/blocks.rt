@@ -1,7 +1,7 @@
 //! Lines that go out in blocks.
 
 use super::sink;
-use crate::common::row_passes;
+use crate::common::{row_passes, rows};
 use cxl_io::{Lines, MemSink};
 use std::process::Abort;
 
@@ -50,29 +50,10 @@ fn blocks(rt: HostRuntime) {
     }
 }
 
-const BLOCKS: &[Row] = &[
-    Row {
-        name: "fewer bytes are kept, just as many are written",
-        lines: "abc d ef",
-        fails: 0,
-        told: "|abcd|abcd|abcdef|",
-    },
-    Row {
-        name: "a block is never cut",
-        lines: "abcdef ghi j",
-        fails: 0,
-        told: "abcdef|abcdef|abcdefghij|abcdefghij|",
-    },
-    Row {
-        name: "the first block cannot be written",
-        lines: "abc d ef",
-        fails: 1,
-        told: "|!|",
-    },
-    Row {
-        name: "the rest at the end cannot be written",
-        lines: "abcd ef",
-        fails: 2,
-        told: "abcd|abcd|!|",
-    },
-];
+const BLOCKS: &[Row] = rows! {
+    Row { name, lines, fails, told };
+    "fewer bytes are kept, just as many are written", "abc d ef", 0, "|abcd|abcd|abcdef|";
+    "a block is never cut", "abcdef ghi j", 0, "abcdef|abcdef|abcdefghij|abcdefghij|";
+    "the first block cannot be written", "abc d ef", 1, "|!|";
+    "the rest at the end cannot be written", "abcd ef", 2, "abcd|abcd|!|";
+};

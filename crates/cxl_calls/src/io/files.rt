@@ -1,6 +1,6 @@
 //! Files in memory and of the system.
 
-use crate::common::{list, repeated, row_passes, shows};
+use crate::common::{list, repeated, row_passes, rows, shows};
 use cxl_io::{Fetch, FetchFault, MemFetch, StdFetch};
 use std::alloc::Global;
 use std::process::Abort;
@@ -43,28 +43,13 @@ fn add(rt: &(impl Abort + AllocGlobal), files: &mut Vec<(String, Vec<u8>)>, file
 }
 
 /// Four files: two have the same name, one has the most bytes that a file may have and one a byte more.
-const FILES: &[File] = &[
-    File {
-        name: "table",
-        text: "CEDT",
-        more: 0,
-    },
-    File {
-        name: "full",
-        text: "",
-        more: 1_048_576,
-    },
-    File {
-        name: "over",
-        text: "",
-        more: 1_048_577,
-    },
-    File {
-        name: "table",
-        text: "other",
-        more: 0,
-    },
-];
+const FILES: &[File] = rows! {
+    File { name, text, more };
+    "table", "CEDT", 0;
+    "full", "", 1_048_576;
+    "over", "", 1_048_577;
+    "table", "other", 0;
+};
 
 /// These files, of which the fourth fetch fails.
 fn files(rt: &(impl Abort + AllocGlobal)) -> MemFetch {
@@ -83,33 +68,14 @@ struct Row {
 }
 
 /// The fetches after the first.
-const FETCHES: &[Row] = &[
-    Row {
-        name: "the most bytes of a file",
-        file: "full",
-        told: "Ok(1048576)",
-    },
-    Row {
-        name: "a byte more",
-        file: "over",
-        told: "Err(TooLarge)",
-    },
-    Row {
-        name: "the fourth fetch",
-        file: "table",
-        told: "Err(Failed)",
-    },
-    Row {
-        name: "a name of no file",
-        file: "image",
-        told: "Err(Failed)",
-    },
-    Row {
-        name: "the first file of a name",
-        file: "table",
-        told: "Ok(4)",
-    },
-];
+const FETCHES: &[Row] = rows! {
+    Row { name, file, told };
+    "the most bytes of a file", "full", "Ok(1048576)";
+    "a byte more", "over", "Err(TooLarge)";
+    "the fourth fetch", "table", "Err(Failed)";
+    "a name of no file", "image", "Err(Failed)";
+    "the first file of a name", "table", "Ok(4)";
+};
 
 fn tell<F: Fetch>(rt: &impl Abort, alloc: Global, memory: &mut F, rows: &[Row]) {
     for row in rows {

@@ -1,6 +1,6 @@
 //! Lines of a source.
 
-use crate::common::{list, repeated, row_passes};
+use crate::common::{list, repeated, row_passes, rows};
 use cxl_io::{LineReader, MemSource, Source, StdSource, Taken};
 use std::process::Abort;
 
@@ -53,115 +53,25 @@ struct Row {
     answers: &'static str,
 }
 
-const SOURCES: &[Row] = &[
-    Row {
-        name: "no byte",
-        front: "",
-        letters: 0,
-        rest: "",
-        fails: 0,
-        answers: ".|.|",
-    },
-    Row {
-        name: "an empty line",
-        front: "\n",
-        letters: 0,
-        rest: "",
-        fails: 0,
-        answers: "|.|.|",
-    },
-    Row {
-        name: "a line that ends with the source",
-        front: "show a",
-        letters: 0,
-        rest: "",
-        fails: 0,
-        answers: "show a|.|.|",
-    },
-    Row {
-        name: "lines that end with 0x0a and with 0x0d 0x0a",
-        front: "show a\n",
-        letters: 0,
-        rest: "down 0x0\r\n",
-        fails: 0,
-        answers: "show a|down 0x0|.|.|",
-    },
-    Row {
-        name: "0x0d before an ending and before the end",
-        front: "a\r\r\n\r\n\nb\r",
-        letters: 0,
-        rest: "",
-        fails: 0,
-        answers: "a\r|||b\r|.|.|",
-    },
-    Row {
-        name: "an empty line behind another",
-        front: "a\n\n",
-        letters: 0,
-        rest: "",
-        fails: 0,
-        answers: "a||.|.|",
-    },
+const SOURCES: &[Row] = rows! {
+    Row { name, front, letters, rest, fails, answers };
+    "no byte", "", 0, "", 0, ".|.|";
+    "an empty line", "\n", 0, "", 0, "|.|.|";
+    "a line that ends with the source", "show a", 0, "", 0, "show a|.|.|";
+    "lines that end with 0x0a and with 0x0d 0x0a", "show a\n", 0, "down 0x0\r\n", 0, "show a|down 0x0|.|.|";
+    "0x0d before an ending and before the end", "a\r\r\n\r\n\nb\r", 0, "", 0, "a\r|||b\r|.|.|";
+    "an empty line behind another", "a\n\n", 0, "", 0, "a||.|.|";
     // A read that fails is final.
-    Row {
-        name: "the first read fails",
-        front: "a\nb",
-        letters: 0,
-        rest: "",
-        fails: 1,
-        answers: "!|!|",
-    },
-    Row {
-        name: "the second read fails",
-        front: "a\nb",
-        letters: 0,
-        rest: "",
-        fails: 2,
-        answers: "a|!|!|",
-    },
+    "the first read fails", "a\nb", 0, "", 1, "!|!|";
+    "the second read fails", "a\nb", 0, "", 2, "a|!|!|";
     // A line of 4,097 bytes is passed over, one of 4,096 with its ending of two bytes is given.
-    Row {
-        name: "a line of 4,097 bytes",
-        front: "",
-        letters: 4_097,
-        rest: "\nend",
-        fails: 0,
-        answers: "-|end|.|.|",
-    },
-    Row {
-        name: "a line of 20,000 bytes",
-        front: "",
-        letters: 20_000,
-        rest: "\nend",
-        fails: 0,
-        answers: "-|end|.|.|",
-    },
-    Row {
-        name: "a line of 4,096 bytes",
-        front: "",
-        letters: 4_096,
-        rest: "\r\n",
-        fails: 0,
-        answers: "*|.|.|",
-    },
+    "a line of 4,097 bytes", "", 4_097, "\nend", 0, "-|end|.|.|";
+    "a line of 20,000 bytes", "", 20_000, "\nend", 0, "-|end|.|.|";
+    "a line of 4,096 bytes", "", 4_096, "\r\n", 0, "*|.|.|";
     // A script of 16,777,216 bytes is read to its end; one byte more is too much.
-    Row {
-        name: "a script of 16,777,216 bytes",
-        front: "\n",
-        letters: 16_777_215,
-        rest: "",
-        fails: 0,
-        answers: "|-|.|.|",
-    },
-    Row {
-        name: "a script of a byte more",
-        front: "\n",
-        letters: 16_777_216,
-        rest: "",
-        fails: 0,
-        answers: "|#|#|",
-    },
-];
+    "a script of 16,777,216 bytes", "\n", 16_777_215, "", 0, "|-|.|.|";
+    "a script of a byte more", "\n", 16_777_216, "", 0, "|#|#|";
+};
 
 /// Whether a source in memory gives the answers of its row.
 fn is_read(rt: &(impl Abort + AllocGlobal), row: &Row) -> bool {
