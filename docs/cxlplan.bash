@@ -81,7 +81,7 @@ _cxl_files() {
 }
 
 _cxlbench() {
-    _cxl_files '--help --version'
+    _cxl_files '--read-back --help --version'
 }
 
 _cxl_capture() {

@@ -1,34 +1,46 @@
 -- What a question and an access come to.
-use Rattle.std.proofs.Common.{◌≡◌, ℕ, ◌^◌, ◌≤◌, ◌⊎◌, Bool, true, false, List, length, sym, ap, subst, ◌∙◌, inl, inr}
+use Rattle.std.proofs.Common.{◌≡◌, ◌≢◌, ℕ, ◌^◌, ◌≤◌, ◌⊎◌, Bool, true, false, List, length, sym, ap, subst, ◌∙◌, inl, inr}
 use Rattle.std.proofs.lemmas.Bool.{false≢true}
-use Rattle.std.specs.Bool.{OnTrue, OnFalse}
 use Rattle.cxl_enc.specs.Counters.{next_count}
 use Rattle.cxl_regs.specs.Registers.{Registers}
-use Rattle.cxl_pipe.specs.Pipe.{Pipe, KeepsRegisters, IsHeard, IsUnheard, HasAnswer, HasNoAnswer, AccessFailed, strange, missed}
+use Rattle.cxl_pipe.specs.Pipe.{Pipe, IsHeard, IsUnheard, HasAnswer, HasNoAnswer, AccessFailed, missed, unheard, unwanted, out_of_step}
 use Rattle.cxl_pipe.specs.Peer.{all_words, AreTold, StopsAmong, powered_on, HasPoweredOn, same, other, many}
 
-module _ (question asked : List ℕ) (is_wanted : List ℕ → Bool) (old new : Pipe) (is : asked ≡ question) where
-  pub unheard : IsUnheard asked old new → KeepsRegisters old new → HasNoAnswer question is_wanted old new
-  unheard why kept = record { why = inl (subst (λ (q : List ℕ). IsUnheard q old new) is why); kept = kept }
+-- what is told and is none of these
+unlike : (test wanted : Bool) → test ≡ wanted → test ≡ false → wanted ≢ true
+unlike test wanted is lacks holds = false≢true (sym lacks ∙ is ∙ holds)
 
-  -- a line came, and was tested
-  pub answered : (test : Bool) → IsHeard asked old new → KeepsRegisters old new → test ≡ is_wanted new.reader.line → OnTrue test (HasAnswer question is_wanted old new)
-  answered true heard kept wanted = record { heard = subst (λ (q : List ℕ). IsHeard q old new) is heard; wanted = sym wanted; kept = kept }
-  answered false heard kept wanted = tt
+module _ (question sent : List ℕ) (is_wanted can_answer : List ℕ → Bool) (old new : Pipe) (is : sent ≡ question) where
+  -- no line came
+  pub none_came : IsUnheard sent old new → HasNoAnswer question is_wanted can_answer old new
+  none_came why = unheard (subst (λ (q : List ℕ). IsUnheard q old new) is why)
 
-  pub unanswered : (test : Bool) → IsHeard asked old new → KeepsRegisters old new → test ≡ is_wanted new.reader.line → OnFalse test (HasNoAnswer question is_wanted old new)
-  unanswered true heard kept wanted = tt
-  unanswered false heard kept wanted = record { why = inr (subst (λ (q : List ℕ). IsHeard q old new) is heard, λ yes. false≢true (wanted ∙ yes)); kept = kept }
+  -- a line came that is wanted
+  pub wanted : (test : Bool) → IsHeard sent old new → test ≡ is_wanted new.line → test ≡ true → HasAnswer question is_wanted old new
+  wanted test heard told holds = record { heard = subst (λ (q : List ℕ). IsHeard q old new) is heard; wanted = sym told ∙ holds }
+
+  -- one that is not, and that the question can have
+  pub another : (test can : Bool) → IsHeard sent old new → test ≡ is_wanted new.line → test ≡ false → can ≡ can_answer new.line → can ≡ true → HasNoAnswer question is_wanted can_answer old new
+  another test can heard told lacks can_told holds =
+      unwanted (record { heard = subst (λ (q : List ℕ). IsHeard q old new) is heard; other = unlike test (is_wanted new.line) told lacks; answers = sym can_told ∙ holds })
+
+  -- one that it cannot have
+  pub astray : (test can : Bool) (mid : Pipe) → IsHeard sent old mid → test ≡ is_wanted mid.line → test ≡ false → can ≡ can_answer mid.line → can ≡ false → new ≡ record mid { strange = true } → HasNoAnswer question is_wanted can_answer old new
+  astray test can mid heard told lacks can_told none after =
+      out_of_step
+      (record {
+        mid = mid;
+        heard = subst (λ (q : List ℕ). IsHeard q old mid) is heard;
+        other = unlike test (is_wanted mid.line) told lacks;
+        answers = unlike can (can_answer mid.line) can_told none;
+        after = after;
+      })
 
 -- an access that counts one more fault
-module _ (question : List ℕ) (is_wanted : List ℕ → Bool) (old now mid new : Pipe) (kept : now ≡ old) where
-  pub failed_strange : now.strange ≡ true → new ≡ record now { faults = next_count now.faults } → AccessFailed question is_wanted old new
-  failed_strange is after = strange (sym (ap (λ (p : Pipe). p.strange) kept) ∙ is) (after ∙ ap (λ (p : Pipe). record p { faults = next_count p.faults }) kept)
-
-  pub failed_unanswered : HasNoAnswer question is_wanted now mid → new ≡ record mid { faults = next_count mid.faults } → AccessFailed question is_wanted old new
-  failed_unanswered why after =
-      missed mid (subst (λ (p : Pipe). HasNoAnswer question is_wanted p mid) kept why)
-      (after ∙ ap (λ (n : ℕ). record mid { faults = next_count n }) (why.kept.faults ∙ ap (λ (p : Pipe). p.faults) kept))
+module _ (question : List ℕ) (is_wanted can_answer : List ℕ → Bool) (old mid new : Pipe) where
+  pub failed_unanswered : HasNoAnswer question is_wanted can_answer old mid → mid.faults ≡ old.faults → new ≡ record mid { faults = next_count mid.faults } → AccessFailed question is_wanted can_answer old new
+  failed_unanswered why kept after =
+      missed mid why (after ∙ ap (λ (n : ℕ). record mid { faults = next_count n }) kept)
 
 -- a power-on
 module _ (start : List Registers) (old now mid new : Pipe) (began : now ≡ powered_on start old) where

@@ -7,15 +7,15 @@ use Rattle.cxl_regs.specs.Registers.{Registers}
 use Rattle.cxl_regs.specs.Words.{word_at}
 use Rattle.cxl_pipe.specs.Pipe.{Pipe, KeepsRegisters, HasAnswer, HasNoAnswer}
 use Rattle.cxl_pipe.specs.Peer.{PeerWord, word_count, word_here, words_of, words_from, IsTold, IsUntold, AreTold, StopsAmong}
-use Rattle.cxl_pipe.specs.Protocol.{read_question, tells_word}
+use Rattle.cxl_pipe.specs.Protocol.{read_question, tells_word, answers_read}
 
 pub keeps_itself : (pipe : Pipe) → KeepsRegisters pipe pipe
-keeps_itself pipe = record { blocks = refl; strange = refl; faults = refl }
+keeps_itself pipe = record { blocks = refl; reads_back = refl; faults = refl }
 
 pub keeps_on : (old mid new : Pipe) → KeepsRegisters old mid → KeepsRegisters mid new → KeepsRegisters old new
 keeps_on old mid new first then = record {
   blocks = then.blocks ∙ first.blocks;
-  strange = then.strange ∙ first.strange;
+  reads_back = then.reads_back ∙ first.reads_back;
   faults = then.faults ∙ first.faults;
 }
 
@@ -104,8 +104,8 @@ module _ (node : ℕ) (block : Registers) (place word : ℕ) where
   here_told : (old new : Pipe) → word_at block (4 * place) ≡ Some word → HasAnswer (read_question node (4 * place)) (tells_word word) old new → IsTold (word_here node block place) old new
   here_told old new is told = subst (λ (value : ℕ). HasAnswer (read_question node (4 * place)) (tells_word value) old new) (value_is is) told
 
-  here_untold : (old new : Pipe) → word_at block (4 * place) ≡ Some word → HasNoAnswer (read_question node (4 * place)) (tells_word word) old new → IsUntold (word_here node block place) old new
-  here_untold old new is untold = subst (λ (value : ℕ). HasNoAnswer (read_question node (4 * place)) (tells_word value) old new) (value_is is) untold
+  here_untold : (old new : Pipe) → word_at block (4 * place) ≡ Some word → HasNoAnswer (read_question node (4 * place)) (tells_word word) answers_read old new → IsUntold (word_here node block place) old new
+  here_untold old new is untold = subst (λ (value : ℕ). HasNoAnswer (read_question node (4 * place)) (tells_word value) answers_read old new) (value_is is) untold
 
   so_far_and_next : (words : List PeerWord) (old now : Pipe) → place < word_count block → LeadsOn words (words_left node block place) old now → LeadsOn words (word_here node block place ∷ words_left node block (place + 1)) old now
   so_far_and_next words old now below so_far =
@@ -115,10 +115,10 @@ module _ (node : ℕ) (block : Registers) (place word : ℕ) where
       → HasAnswer (read_question node (4 * place)) (tells_word word) now next → LeadsOn words (words_left node block (place + 1)) old next
   word_told words old now next below is so_far told =
       leads_more words (word_here node block place ∷ []) (words_left node block (place + 1)) old now next (so_far_and_next words old now below so_far)
-      (told_alone (word_here node block place) now next (here_told now next is told)) told.kept
+      (told_alone (word_here node block place) now next (here_told now next is told)) told.heard.kept
 
   pub word_untold : (words : List PeerWord) (old now new : Pipe) → place < word_count block → word_at block (4 * place) ≡ Some word → LeadsOn words (words_left node block place) old now
-      → HasNoAnswer (read_question node (4 * place)) (tells_word word) now new → StopsAmong words old new
+      → HasNoAnswer (read_question node (4 * place)) (tells_word word) answers_read now new → StopsAmong words old new
   word_untold words old now new below is so_far untold =
       stops_more words (word_here node block place ∷ []) (words_left node block (place + 1)) old now new (so_far_and_next words old now below so_far)
       (stops_alone (word_here node block place) now new (here_untold now new is untold))

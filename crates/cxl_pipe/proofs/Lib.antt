@@ -1,2 +1,5 @@
 pub mod Asking
 pub mod Accesses
+pub mod Commits
+mod Ends
+mod Lines

@@ -1,3 +1,5 @@
 pub mod Protocol
+pub mod Talk
 pub mod Pipe
+pub mod Commits
 pub mod Peer

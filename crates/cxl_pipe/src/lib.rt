@@ -2,7 +2,14 @@
 //! another.
 #![tactic(auto)]
 
+mod answer;
+mod peer;
 mod pipe_bus;
+mod pipes;
 mod question;
+mod trouble;
 
+pub use peer::{Astray, How, Peer};
 pub use pipe_bus::PipeBus;
+pub use pipes::Pipes;
+pub use trouble::{Last, Trouble};

@@ -16,6 +16,7 @@ CEDT, TOPO, IMAGE = (os.path.join(TOP, "examples", f"four-endpoints.{it}") for i
 SECONDS = 60  # in which a run and its peer end
 WORDS = 216  # of the registers of four-endpoints, which are read before the first line
 ENABLES = 4  # writes by which its endpoints are let decode
+LAST = 2  # words that are read behind the last line
 CREATE = "create r0 pmem 0x20000000 d1 d2\n"
 
 sys.path.insert(0, PIPE)
@@ -144,10 +145,10 @@ class Bench(unittest.TestCase):
         (status, said), log = over_trace(CREATE, "log.csv")
         self.assertEqual((status, said), (0, "created r0 window 0 base 0x110000000 size 0x20000000 gran 256 ways 2\n"))
         self.assertEqual(log[0], "number,access,node,offset,value,failed")
-        self.assertEqual([it.split(",")[1] for it in log[1:]], ["read"] * WORDS + ["write"] * (ENABLES + 32))
+        self.assertEqual([it.split(",")[1] for it in log[1:]], ["read"] * WORDS + ["write"] * (ENABLES + 32) + ["read"] * LAST)
         (status, said), log = over_trace(CREATE, "log.vcd")
         self.assertEqual(status, 0)
-        self.assertEqual(sum(it.startswith("#") for it in log), WORDS + ENABLES + 32)
+        self.assertEqual(sum(it.startswith("#") for it in log), WORDS + ENABLES + 32 + LAST)
 
 
 class Peers(unittest.TestCase):
