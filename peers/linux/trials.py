@@ -20,6 +20,9 @@ ACCESS = 8  # bytes of a store
 ONE_WAY_GRANULARITY = "granularity of one way"  # which decides nothing
 CONTROL = 4  # the place of the control word among a decoder's
 DOUBTFUL = (2, 3)  # statuses of cxl-capture that say that not all is known
+# Frees device memory that decoders of no region hold, the last decoder first.
+FREE = ('for it in $(ls -dr /sys/bus/cxl/devices/decoder*); do [ -e $it/dpa_size ] && [ -z "$(cat $it/region)" ] '
+        '&& echo 0 > $it/dpa_size; done; true')
 
 
 @dataclass
@@ -105,7 +108,8 @@ class Trial:
             if create not in self.guest.machine.refused:
                 self.tally.fault(f"Linux does not make {create}")
             for name in [it["region"] for it in self.listed("-Ri") if it.get("decode_state") != "commit"]:
-                self.guest.run(f"cxl destroy-region -f {name}")  # what is left of it holds memory of the devices
+                self.guest.run(f"cxl destroy-region -f {name}")
+            self.guest.run(FREE)  # of devices that did not come to be targets, which keeps the decoders before from release
             return False
         return self.compare_region(planned, create)
 

@@ -227,8 +227,9 @@ def filled_bytes(file: str):
 
 def image_of(peer: Peer, words: dict, order: Optional[list] = None) -> bytes:
     """An image file with these words, of the nodes in this order; a passthrough node has a placeholder."""
-    image = b"CXLHDM01" + struct.pack("<I", len(peer.nodes))
-    for node in order or peer.nodes:
+    nodes = peer.nodes if order is None else order
+    image = b"CXLHDM01" + struct.pack("<I", len(nodes))
+    for node in nodes:
         image += struct.pack("<I", peer.capability(node))
         image += b"".join(struct.pack("<I", words.get((node.name, off), 0)) for off in range(4, node.length, 4))
     return image
