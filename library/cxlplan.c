@@ -27,6 +27,11 @@ uint8_t cxlplan_proved_session_act(struct cxlplan_session *, const uint8_t *, si
 uint8_t cxlplan_proved_session_words(struct cxlplan_session *, struct cxlplan_word *, size_t, size_t *);
 uint8_t cxlplan_proved_session_image(struct cxlplan_session *, uint8_t *, size_t, size_t *);
 void cxlplan_proved_session_close(struct cxlplan_session *);
+uint8_t cxlplan_proved_session_down(struct cxlplan_session *, uint64_t, struct cxlplan_place *, struct cxlplan_refusal *);
+uint8_t cxlplan_proved_session_up(struct cxlplan_session *, const uint8_t *, size_t, uint64_t, struct cxlplan_host_byte *,
+                                  struct cxlplan_refusal *);
+uint8_t cxlplan_proved_session_load(struct cxlplan_session *, uint64_t, uint8_t *, size_t, struct cxlplan_refusal *);
+uint8_t cxlplan_proved_session_store(struct cxlplan_session *, uint64_t, const uint8_t *, size_t, struct cxlplan_refusal *);
 
 /* Bytes to be read, and the room for an answer, as a caller passes them. */
 struct bytes {
@@ -320,4 +325,57 @@ int cxlplan_session_close(struct cxlplan_session *session)
         return CXLPLAN_USAGE;
     cxlplan_proved_session_close(session);
     return CXLPLAN_DONE;
+}
+
+/* Whether a session, its refusal, if that is asked for, and the parts of one command are fit. */
+static int is_fit_for(struct cxlplan_session *session, struct cxlplan_refusal *refusal, struct part first, struct part second)
+{
+    struct part parts[] = {{session, sizeof *session, sizeof(void *), 1},
+                           {refusal, refusal ? sizeof *refusal : 0, sizeof refusal->first, 1},
+                           first, second};
+
+    return session && are_fit(parts, 4);
+}
+
+int cxlplan_session_down(struct cxlplan_session *session, uint64_t hpa, struct cxlplan_place *place, struct cxlplan_refusal *refusal)
+{
+    struct part record = {place, sizeof *place, sizeof place->dpa, 1}, none = {NULL, 0, 1, 0};
+    struct cxlplan_refusal untold;
+
+    if (!is_fit_for(session, refusal, record, none))
+        return CXLPLAN_USAGE;
+    return cxlplan_proved_session_down(session, hpa, place, refusal ? refusal : &untold);
+}
+
+int cxlplan_session_up(struct cxlplan_session *session, const void *endpoint, size_t endpoint_len, uint64_t dpa,
+                       struct cxlplan_host_byte *byte, struct cxlplan_refusal *refusal)
+{
+    struct part record = {byte, sizeof *byte, sizeof byte->hpa, 1}, name = {endpoint, endpoint_len, 1, 0};
+    struct cxlplan_refusal untold;
+
+    if (!is_fit_for(session, refusal, record, name))
+        return CXLPLAN_USAGE;
+    return cxlplan_proved_session_up(session, endpoint ? endpoint : nothing, endpoint_len, dpa, byte, refusal ? refusal : &untold);
+}
+
+int cxlplan_session_load(struct cxlplan_session *session, uint64_t hpa, void *bytes, size_t bytes_len, struct cxlplan_refusal *refusal)
+{
+    struct part room = {bytes, bytes_len, 1, 1}, none = {NULL, 0, 1, 0};
+    struct cxlplan_refusal untold;
+    uint8_t no_byte;
+
+    if (!is_fit_for(session, refusal, room, none))
+        return CXLPLAN_USAGE;
+    return cxlplan_proved_session_load(session, hpa, bytes ? bytes : &no_byte, bytes_len, refusal ? refusal : &untold);
+}
+
+int cxlplan_session_store(struct cxlplan_session *session, uint64_t hpa, const void *bytes, size_t bytes_len,
+                          struct cxlplan_refusal *refusal)
+{
+    struct part from = {bytes, bytes_len, 1, 0}, none = {NULL, 0, 1, 0};
+    struct cxlplan_refusal untold;
+
+    if (!is_fit_for(session, refusal, from, none))
+        return CXLPLAN_USAGE;
+    return cxlplan_proved_session_store(session, hpa, bytes ? bytes : nothing, bytes_len, refusal ? refusal : &untold);
 }

@@ -198,8 +198,8 @@ int cxlplan_session_open(struct cxlplan_session *session, const void *cedt, size
 int cxlplan_session_act(struct cxlplan_session *session, const void *lines, size_t lines_len, void *out, size_t out_len,
                         size_t *written);
 
-/* The register words that the last call of cxlplan_session_act sent, of all its lines, in their order; before the first such call
-   those that opening the session sent. As many from the front as there are rows for are put into `rows`, and the rows behind them stay.
+/* The register words that the last command or call of cxlplan_session_act sent, of all its lines, in their order; before the first such
+   call those that opening the session sent. As many from the front as there are rows for are put into `rows`, and the rows behind them stay.
    `*count` is how many there are, also where there are fewer rows; `count` may be null (C). With status 1 there is no session, and
    `*count` is 0. Statuses 0, 1. */
 int cxlplan_session_words(struct cxlplan_session *session, struct cxlplan_word *rows, size_t rows_len, size_t *count);
@@ -210,6 +210,92 @@ int cxlplan_session_image(struct cxlplan_session *session, void *out, size_t out
 
 /* Closes a session, and gives its memory back. Where there is none it does nothing. Statuses 0, 1. */
 int cxlplan_session_close(struct cxlplan_session *session);
+
+/*
+ * One command on a session, by numbers and bytes in place of its line: what the line would do, and its answer as a record. Status 0:
+ * it was carried out, and the answer stands in the record. Status 8: it was refused, the record stays as it was, the session, too, and
+ * `refusal`, which may be null (C), says why. Status 1: nothing was asked, and nothing is written: there is no session, or a name or
+ * a number of bytes is none that a line could state. Status 9: memory ran out before anything changed, and nothing is written. With
+ * status 0 or 8 cxlplan_session_words tells the words of this command: these send none.
+ */
+
+/* A name: `len` bytes from the front, 1 to 15, and zeros behind them. */
+struct cxlplan_name {
+    uint8_t len;
+    uint8_t bytes[15];
+};
+
+/* A port on the way of an address. */
+struct cxlplan_via {
+    uint32_t node;    /* the number of its node */
+    uint16_t decoder; /* of the region, by its number in the node */
+    uint16_t entry;   /* the place in the decoder's target list */
+};
+
+/* Where a host address goes. */
+struct cxlplan_place {
+    uint64_t dpa;              /* the device address */
+    uint32_t endpoint;         /* the number of the endpoint's node */
+    uint32_t slot;             /* of the region */
+    uint32_t position;         /* among the window's targets */
+    uint32_t via_count;        /* how many ports are on its way */
+    struct cxlplan_via via[5]; /* these, from the host bridge down; those behind them are zero */
+    struct cxlplan_name region;
+};
+
+/* The host address that goes to a byte of a device. */
+struct cxlplan_host_byte {
+    uint64_t hpa;
+    struct cxlplan_name region;
+};
+
+/* Why a command was refused. Of the calls below come those with a letter: d down, u up, l load, s store. */
+enum cxlplan_refusal_kind {
+    CXLPLAN_NOT_REFUSED = 0,
+    CXLPLAN_BAD_LINE = 1,
+    CXLPLAN_BUSY = 2,
+    CXLPLAN_NAME_TAKEN = 3,
+    CXLPLAN_NO_REGION = 4,
+    CXLPLAN_NO_ENDPOINT = 5, /* u: no endpoint has the name */
+    CXLPLAN_REGIONS_FULL = 6,
+    CXLPLAN_FULL = 7,      /* s: frames that are needed, and those that are free */
+    CXLPLAN_LOCKED = 8,    /* a node and a decoder */
+    CXLPLAN_NOT_LAST = 9,  /* a node and a decoder */
+    CXLPLAN_UNMAPPED = 10, /* d l s: no region holds the address; u: none the byte */
+    CXLPLAN_CROSSES_END = 11, /* l s: the bytes begin in a region and end past it */
+    CXLPLAN_NO_PLAN = 12,
+    CXLPLAN_NO_SET = 13,
+    CXLPLAN_SAME_REGION = 14,
+    CXLPLAN_SIZES_DIFFER = 15, /* both sizes */
+    CXLPLAN_POISON_SHORT = 16,
+    CXLPLAN_POISON_COUNT = 17, /* records that are said, and those that there is room for */
+    CXLPLAN_BUS_UNDONE = 18,
+    CXLPLAN_BUS_PENDING = 19, /* register writes that are done, and all of the job */
+    CXLPLAN_BUS_READ = 20,
+    CXLPLAN_NOTHING_PENDING = 21
+};
+
+struct cxlplan_refusal {
+    uint32_t kind;          /* one of the above */
+    uint32_t count;         /* how many numbers it tells: 0, or 2 */
+    uint64_t first, second; /* these, or 0 */
+};
+
+/* Where a host address goes, as `down HPA` tells it. Takes no memory. Statuses 0, 1, 8. */
+int cxlplan_session_down(struct cxlplan_session *session, uint64_t hpa, struct cxlplan_place *place, struct cxlplan_refusal *refusal);
+
+/* Which host address goes to a byte of a device, as `up ENDPOINT DPA` tells it, the endpoint by its name. Takes no memory.
+   Statuses 0, 1, 8. */
+int cxlplan_session_up(struct cxlplan_session *session, const void *endpoint, size_t endpoint_len, uint64_t dpa,
+                       struct cxlplan_host_byte *byte, struct cxlplan_refusal *refusal);
+
+/* The `bytes_len` bytes from a host address on, 1 to 256, as `load HPA LEN` tells them: all of `bytes` is filled with status 0, and none
+   of it with another. Statuses 0, 1, 8, 9. */
+int cxlplan_session_load(struct cxlplan_session *session, uint64_t hpa, void *bytes, size_t bytes_len, struct cxlplan_refusal *refusal);
+
+/* Puts bytes from a host address on, 1 to 256, as `store HPA BYTES` does: all of them, or none. Statuses 0, 1, 8, 9. */
+int cxlplan_session_store(struct cxlplan_session *session, uint64_t hpa, const void *bytes, size_t bytes_len,
+                          struct cxlplan_refusal *refusal);
 
 #ifdef __cplusplus
 }

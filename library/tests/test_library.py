@@ -287,9 +287,9 @@ class Library(unittest.TestCase):
                              check=False)
         self.assertEqual((ran.returncode, ran.stdout), (0, b""))
 
-    def sessions(self, *libraries):
+    def sessions(self, *libraries, source="sessions.c"):
         """The program that keeps sessions by handle; it refuses itself memory."""
-        return self.compiled(f"{HERE}/sessions.c", "-pthread", "-Wl,--wrap=malloc,--wrap=realloc,--wrap=free", *libraries)
+        return self.compiled(f"{HERE}/{source}", "-pthread", "-Wl,--wrap=malloc,--wrap=realloc,--wrap=free", *libraries)
 
     def scripts(self):
         """The scripts of the rows, but for the one that a session takes line after line, however long it is."""
@@ -304,19 +304,48 @@ class Library(unittest.TestCase):
             self.assertEqual(ran.stderr, b"")
             self.compare(row, (ran.returncode, ran.stdout))
 
+    def says_nothing(self, words, *parts):
+        """A program of sessions finds nothing wrong."""
+        for what in parts:
+            ran = subprocess.run([*words, what, *HOST[:2]], stdout=subprocess.PIPE, stderr=subprocess.STDOUT, timeout=SECONDS, check=False)
+            self.assertEqual((ran.returncode, ran.stdout), (0, b""), what)
+
     def test_sessions_with_sanitizers(self):
         made = self.sessions("-fsanitize=address,undefined", STATIC)
         self.line_by_line([made], self.scripts())
-        for what in ("careless", "memory", "threads"):
-            ran = subprocess.run([made, what, *HOST[:2]], stdout=subprocess.PIPE, stderr=subprocess.STDOUT, timeout=SECONDS, check=False)
-            self.assertEqual((ran.returncode, ran.stdout), (0, b""), what)
+        self.says_nothing([made], "careless", "memory", "threads")
 
     def test_sessions_under_valgrind(self):
         words = self.under_valgrind(self.sessions(SHARED, f"-Wl,-rpath,{BUILT}"))
         self.line_by_line(words, [row for row in self.rows if row[0] == "run" and row[3].startswith(f"{TOP}/examples/")])
-        for what in ("careless", "threads"):
-            ran = subprocess.run([*words, what, *HOST[:2]], stdout=subprocess.PIPE, stderr=subprocess.STDOUT, timeout=SECONDS, check=False)
-            self.assertEqual((ran.returncode, ran.stdout), (0, b""), what)
+        self.says_nothing(words, "careless", "threads")
+
+    def asked_rows(self):
+        """The scripts, and one that asks each command that has a call, with each of its refusals."""
+        asks = [b"create r0 pmem 0x20000000 d1 d2", b"down 0x110000000", b"down 0x110000100", b"down 0x12fffffff", b"down 0x130000000", b"down 0",
+                b"down 18446744073709551615", b"up d1 0", b"up d2 0x0fffffff", b"up d1 0x10000000", b"up d9 0", b"up hb32 0", b"up d1 0xffffffffffffffff",
+                b"load 0x1100000fe 4", b"store 0x1100000fe aabbccdd", b"load 0x1100000fe 4", b"load 0x110000000 256", b"load 0x12fffff00 256",
+                b"load 0x12fffff01 256", b"load 0x10fffffff 2", b"store 0x12fffffff 0102", b"store 0x130000000 01", b"store 0x110000080 " + b"5a" * 256,
+                b"load 0x110000080 256", b"begin destroy r0", b"down 0x110000000", b"load 0x110000080 2", b"step 3", b"down 0x110000000", b"abort",
+                b"down 0x110000000", b"destroy r0", b"down 0x110000000", b"up d1 0", b"load 0x110000080 1", b"store 0x110000080 01"]
+        few = write(f"{self.folder}/few.toml", b"frames = 2\n" + read(HOST[1]))
+        stores = [asks[0], *(b"store %#x 0102" % (0x110000000 + at) for at in (0, 256, 511, 512, 0x1000)), b"load 0x110000000 256"]
+        for name, topology, lines in (("asks", HOST[1], asks), ("stores", few, stores)):
+            row = ["run", HOST[0], topology, write(f"{self.folder}/{name}.script", b"\n".join(lines) + b"\n")]
+            self.wanted[tuple(row)] = by_program(row)
+            yield row
+        self.assertIn(b"\nfull need 1 free 0\n", self.wanted[tuple(row)][1])
+        yield from self.scripts()
+
+    def test_asked_with_sanitizers(self):
+        made = self.sessions("-fsanitize=address,undefined", STATIC, source="asked.c")
+        self.line_by_line([made], self.asked_rows())
+        self.says_nothing([made], "careless", "memory", "threads")
+
+    def test_asked_under_valgrind(self):
+        words = self.under_valgrind(self.sessions(SHARED, f"-Wl,-rpath,{BUILT}", source="asked.c"))
+        self.line_by_line(words, [next(self.asked_rows())])
+        self.says_nothing(words, "careless", "threads")
 
     def test_python_sessions(self):
         """Line by line as the program, with the words of the last line and the image behind it; and what no session opens on."""
@@ -335,6 +364,29 @@ class Library(unittest.TestCase):
             except _library.Unopened as fault:
                 ended, found = fault.status, [(fault.status, fault.text)]
             self.compare(row, (ended, b"".join(text for _, text in found)))
+
+    def test_python_asks(self):
+        """Commands by numbers tell what their lines tell, and a refusal says which it is."""
+        with _library.Session(*map(read, HOST[:2])) as session:
+            session.act("create r0 pmem 0x20000000 d1 d2\n")
+            session.store(0x1100000fe, b"\xaa\xbb\xcc\xdd")
+            self.assertEqual(session.load(0x1100000fe, 4), b"\xaa\xbb\xcc\xdd")
+            place, names = session.down(0x110000100), [node.name for node in told.nodes_of(read(HOST[1]))]
+            ways = " ".join(f"{names[it.node]}:{it.decoder}:{it.entry}" for it in place.via[:place.via_count])
+            self.assertEqual(session.act("down 0x110000100\n")[1].decode(),
+                             f"down 0x110000100 region {place.region} slot {place.slot} position {place.position} via {ways} "
+                             f"endpoint {names[place.endpoint]} dpa {place.dpa:#x}\n")
+            byte = session.up(names[place.endpoint], place.dpa)
+            self.assertEqual((byte.hpa, str(byte.region)), (0x110000100, "r0"))
+            for kind, ask in ((_library.UNMAPPED, lambda: session.down(0)), (_library.UNMAPPED, lambda: session.up("d1", 1 << 40)),
+                              (_library.NO_ENDPOINT, lambda: session.up("d9", 0)), (_library.CROSSES_END, lambda: session.load(0x12fffffff, 2))):
+                with self.assertRaises(_library.Refused) as caught:
+                    ask()
+                self.assertEqual((caught.exception.status, caught.exception.refusal.kind), (_library.REFUSED, kind))
+            for ask in (lambda: session.load(0x110000000, 0), lambda: session.store(0x110000000, bytes(257)), lambda: session.up("", 0)):
+                with self.assertRaises(_library.Refused) as caught:
+                    ask()
+                self.assertEqual(caught.exception.status, _library.USAGE)
 
     def test_rust(self):
         if not shutil.which("rustc"):

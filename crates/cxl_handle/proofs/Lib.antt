@@ -4,4 +4,5 @@ mod Holding
 mod Opened
 mod Rooms
 mod Lines
+mod Loads
 mod Unopened

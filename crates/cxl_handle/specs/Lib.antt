@@ -1,3 +1,5 @@
 pub mod Owned
 pub mod Told
 pub mod Facts
+pub mod Replies
+pub mod Asking

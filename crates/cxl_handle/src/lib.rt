@@ -3,11 +3,14 @@
 #![tactic(auto)]
 
 mod acting;
+mod asking;
+mod facts;
 mod handle;
 mod images;
 mod opening;
 mod raw_box;
 mod words;
 
+pub use facts::{HostByteFact, NameFact, PlaceFact, RefusalFact, ViaFact};
 pub use handle::SessionHandle;
 pub use words::WordFact;
