@@ -18,12 +18,43 @@ _kept = threading.local()
 # What the functions answer as status.
 DONE, USAGE, FETCH_FAULT, BAD_TABLE, BAD_TOPO, READ_FAULT, WRITE_FAULT = range(7)
 BUS_FAULT, REFUSED, NO_MEMORY, BAD_IMAGE, TOO_MUCH, TOO_LARGE = range(7, 13)
-
+# Why a command of a session is refused.
+NO_ENDPOINT, FULL, UNMAPPED, CROSSES_END = 5, 7, 10, 11
 
 
 class Word(ctypes.Structure):
     """A register word that a session sent: the number of its node, where it stands in the node's block in bytes, and its value."""
     _fields_ = [("node", ctypes.c_uint32), ("offset", ctypes.c_uint32), ("value", ctypes.c_uint32)]
+
+
+class Name(ctypes.Structure):
+    """A name: so many bytes from the front, and zeros behind them."""
+    _fields_ = [("len", ctypes.c_uint8), ("bytes", ctypes.c_uint8 * 15)]
+
+    def __str__(self):
+        return bytes(self.bytes[:self.len]).decode()
+
+
+class Via(ctypes.Structure):
+    """A port on an address's way: the number of its node, its decoder, and the place in the decoder's target list."""
+    _fields_ = [("node", ctypes.c_uint32), ("decoder", ctypes.c_uint16), ("entry", ctypes.c_uint16)]
+
+
+class Place(ctypes.Structure):
+    """Where a host address goes: the device address, the number of the endpoint's node, the slot of the region, the position among the
+    window's targets, and the ports on its way."""
+    _fields_ = [("dpa", ctypes.c_uint64), ("endpoint", ctypes.c_uint32), ("slot", ctypes.c_uint32), ("position", ctypes.c_uint32),
+                ("via_count", ctypes.c_uint32), ("via", Via * 5), ("region", Name)]
+
+
+class HostByte(ctypes.Structure):
+    """The host address that goes to a byte of a device, and its region."""
+    _fields_ = [("hpa", ctypes.c_uint64), ("region", Name)]
+
+
+class Refusal(ctypes.Structure):
+    """Why a command was refused: one of the numbers below, and the numbers that the reply tells, none or two."""
+    _fields_ = [("kind", ctypes.c_uint32), ("count", ctypes.c_uint32), ("first", ctypes.c_uint64), ("second", ctypes.c_uint64)]
 
 
 class _Handle(ctypes.Structure):
@@ -35,6 +66,7 @@ _BYTES = [ctypes.c_void_p, ctypes.c_size_t]
 _ROOM = [ctypes.c_void_p, ctypes.c_size_t, ctypes.POINTER(ctypes.c_size_t)]
 _ROWS = [ctypes.POINTER(Word), ctypes.c_size_t, ctypes.POINTER(ctypes.c_size_t)]
 _SESSION = ctypes.POINTER(_Handle)
+_REFUSAL = ctypes.POINTER(Refusal)
 # What each function of the header takes before the room.
 _TAKES = {
     "route": [*_BYTES, ctypes.c_uint64],
@@ -59,6 +91,10 @@ _ON_SESSION = {
     "session_words": [_SESSION, *_ROWS],
     "session_image": [_SESSION, *_ROOM],
     "session_close": [_SESSION],
+    "session_down": [_SESSION, ctypes.c_uint64, ctypes.POINTER(Place), _REFUSAL],
+    "session_up": [_SESSION, *_BYTES, ctypes.c_uint64, ctypes.POINTER(HostByte), _REFUSAL],
+    "session_load": [_SESSION, ctypes.c_uint64, *_BYTES, _REFUSAL],
+    "session_store": [_SESSION, ctypes.c_uint64, *_BYTES, _REFUSAL],
 }
 
 
@@ -226,6 +262,14 @@ class Unopened(Exception):
         self.status, self.text = status, text
 
 
+class Refused(Exception):
+    """A command of a session was refused, or, with another status than 8, not asked. `refusal` says why."""
+
+    def __init__(self, status, refusal):
+        super().__init__(f"refusal {refusal.kind}" if status == REFUSED else f"status {status}")
+        self.status, self.refusal = status, refusal
+
+
 class Session:
     """A session that is opened once and asked often, on the host after reset, or with the registers of an image. It closes at the end
     of a `with`, or by `close`. One call at a time may use it, from any thread."""
@@ -264,6 +308,34 @@ class Session:
     def image(self):
         """The register image as it is, as the bytes of its file."""
         return self._answer("session_image")
+
+    def _ask(self, name, *words):
+        refusal = Refusal()
+        status = getattr(library(), f"cxlplan_{name}")(ctypes.byref(self._handle), *words, ctypes.byref(refusal))
+        if status != DONE:
+            raise Refused(status, refusal)
+
+    def down(self, address):
+        """Where a host address goes, as a `Place`."""
+        place = Place()
+        self._ask("session_down", _number(address, 64), ctypes.byref(place))
+        return place
+
+    def up(self, endpoint, address):
+        """Which host address goes to a byte of an endpoint's device, as a `HostByte`."""
+        byte = HostByte()
+        self._ask("session_up", *_passed(endpoint), _number(address, 64), ctypes.byref(byte))
+        return byte
+
+    def load(self, address, count):
+        """The bytes from a host address on, 1 to 256 of them."""
+        room = ctypes.create_string_buffer(_number(count, 16) or 1)
+        self._ask("session_load", _number(address, 64), room, count)
+        return room.raw
+
+    def store(self, address, data):
+        """Puts bytes from a host address on, 1 to 256 of them."""
+        self._ask("session_store", _number(address, 64), *_passed(data))
 
     def close(self):
         """Closes it. A call behind that answers status 1."""

@@ -56,6 +56,19 @@ pub mod raw {
         pub fn cxlplan_session_words(session: *mut cxlplan_session, rows: *mut cxlplan_word, rows_len: usize, count: *mut usize) -> c_int;
         pub fn cxlplan_session_image(session: *mut cxlplan_session, out: *mut c_void, out_len: usize, written: *mut usize) -> c_int;
         pub fn cxlplan_session_close(session: *mut cxlplan_session) -> c_int;
+        pub fn cxlplan_session_down(
+            session: *mut cxlplan_session, hpa: u64, place: *mut cxlplan_place, refusal: *mut cxlplan_refusal,
+        ) -> c_int;
+        pub fn cxlplan_session_up(
+            session: *mut cxlplan_session, endpoint: *const c_void, endpoint_len: usize, dpa: u64,
+            byte: *mut cxlplan_host_byte, refusal: *mut cxlplan_refusal,
+        ) -> c_int;
+        pub fn cxlplan_session_load(
+            session: *mut cxlplan_session, hpa: u64, bytes: *mut c_void, bytes_len: usize, refusal: *mut cxlplan_refusal,
+        ) -> c_int;
+        pub fn cxlplan_session_store(
+            session: *mut cxlplan_session, hpa: u64, bytes: *const c_void, bytes_len: usize, refusal: *mut cxlplan_refusal,
+        ) -> c_int;
     }
 
     /// A session's handle, which begins null.
@@ -64,7 +77,7 @@ pub mod raw {
         pub held: *mut c_void,
     }
 
-    pub use super::Word as cxlplan_word;
+    pub use super::{HostByte as cxlplan_host_byte, Place as cxlplan_place, Refusal as cxlplan_refusal, Word as cxlplan_word};
 }
 
 use core::ffi::c_void;
@@ -205,6 +218,86 @@ pub struct Word {
     pub value: u32,
 }
 
+/// A name: its bytes from the front, and zeros behind them.
+#[repr(C)]
+#[derive(Clone, Copy, Debug, Default, PartialEq, Eq)]
+pub struct Name {
+    pub len: u8,
+    pub bytes: [u8; 15],
+}
+
+impl Name {
+    pub fn as_str(&self) -> &str {
+        core::str::from_utf8(&self.bytes[..usize::from(self.len).min(15)]).unwrap_or("")
+    }
+}
+
+/// A port on an address's way.
+#[repr(C)]
+#[derive(Clone, Copy, Debug, Default, PartialEq, Eq)]
+pub struct Via {
+    /// The number of its node, as `tree` tells it.
+    pub node: u32,
+    pub decoder: u16,
+    /// The place in the decoder's target list.
+    pub entry: u16,
+}
+
+/// Where a host address goes.
+#[repr(C)]
+#[derive(Clone, Copy, Debug, Default, PartialEq, Eq)]
+pub struct Place {
+    /// The device address.
+    pub dpa: u64,
+    /// The number of the endpoint's node.
+    pub endpoint: u32,
+    pub slot: u32,
+    /// Its place among the window's targets.
+    pub position: u32,
+    /// How many of `via` are ports on its way, from the bridge down.
+    pub via_count: u32,
+    pub via: [Via; 5],
+    pub region: Name,
+}
+
+/// The host address that goes to a byte of a device.
+#[repr(C)]
+#[derive(Clone, Copy, Debug, Default, PartialEq, Eq)]
+pub struct HostByte {
+    pub hpa: u64,
+    pub region: Name,
+}
+
+/// Why a command was refused, by its number in `cxlplan.h`, with the numbers that the reply tells, none or two.
+#[repr(C)]
+#[derive(Clone, Copy, Debug, Default, PartialEq, Eq)]
+pub struct Refusal {
+    pub kind: u32,
+    pub count: u32,
+    pub first: u64,
+    pub second: u64,
+}
+
+pub const NO_ENDPOINT: u32 = 5;
+pub const FULL: u32 = 7;
+pub const UNMAPPED: u32 = 10;
+pub const CROSSES_END: u32 = 11;
+
+/// A command that came to nothing: its status, [`REFUSED`], or 1 where a name or a number is none, or [`NO_MEMORY`], and why.
+#[derive(Clone, Copy, Debug, PartialEq, Eq)]
+pub struct Refused {
+    pub status: u8,
+    pub refusal: Refusal,
+}
+
+/// What a call with this refusal came to.
+fn unless_refused<T>(status: i32, refusal: Refusal, told: T) -> Result<T, Refused> {
+    match status as u8 {
+        DONE => Ok(told),
+        status => Err(Refused { status, refusal }),
+    }
+}
+
 /// A session that is opened once and asked often. It closes when it is dropped.
 pub struct Session {
     handle: raw::cxlplan_session,
@@ -251,6 +344,38 @@ impl Session {
         let handle: *mut _ = &mut self.handle;
         // SAFETY: as in `act`.
         answer(out, |at, len, written| unsafe { raw::cxlplan_session_image(handle, at, len, written) })
+    }
+
+    /// Where a host address goes.
+    pub fn down(&mut self, hpa: u64) -> Result<Place, Refused> {
+        let (mut place, mut refusal) = (Place::default(), Refusal::default());
+        // SAFETY: as in `act`; the records are this call's own.
+        let status = unsafe { raw::cxlplan_session_down(&mut self.handle, hpa, &mut place, &mut refusal) };
+        unless_refused(status, refusal, place)
+    }
+
+    /// Which host address goes to a byte of an endpoint's device.
+    pub fn up(&mut self, endpoint: &str, dpa: u64) -> Result<HostByte, Refused> {
+        let ((name, len), mut byte, mut refusal) = (bytes!(endpoint), HostByte::default(), Refusal::default());
+        // SAFETY: as in `down`.
+        let status = unsafe { raw::cxlplan_session_up(&mut self.handle, name, len, dpa, &mut byte, &mut refusal) };
+        unless_refused(status, refusal, byte)
+    }
+
+    /// Fills a slice, of 1 to 256 bytes, with those from a host address on.
+    pub fn load(&mut self, hpa: u64, bytes: &mut [u8]) -> Result<(), Refused> {
+        let mut refusal = Refusal::default();
+        // SAFETY: as in `down`.
+        let status = unsafe { raw::cxlplan_session_load(&mut self.handle, hpa, bytes.as_mut_ptr().cast(), bytes.len(), &mut refusal) };
+        unless_refused(status, refusal, ())
+    }
+
+    /// Puts bytes, 1 to 256 of them, from a host address on.
+    pub fn store(&mut self, hpa: u64, bytes: &[u8]) -> Result<(), Refused> {
+        let ((at, len), mut refusal) = (bytes!(bytes), Refusal::default());
+        // SAFETY: as in `down`.
+        let status = unsafe { raw::cxlplan_session_store(&mut self.handle, hpa, at, len, &mut refusal) };
+        unless_refused(status, refusal, ())
     }
 }
 
