@@ -1,0 +1,5 @@
+mod Outsets
+mod SameTraces
+mod Candidates
+mod HostLists
+mod SameBytes

@@ -1,0 +1,3 @@
+-- Definitions that only the inner calls and the proofs speak of.
+pub mod Turns
+pub mod Candidates
