@@ -13,4 +13,6 @@ mod hosts;
 #[cfg(test)]
 mod rows;
 #[cfg(test)]
+mod traces;
+#[cfg(test)]
 mod walks;

@@ -209,7 +209,7 @@ fn misses(rt: HostRuntime) {
     }
 }
 
-const BRIDGES_ALONE: &str = "0 2 0 0x100000000 0x20000000 0 0";
+pub(crate) const BRIDGES_ALONE: &str = "0 2 0 0x100000000 0x20000000 0 0";
 
 const MISSES: [Row; 7] = [
     Row {
@@ -298,7 +298,7 @@ fn the_least_of_two_that_meet(rt: HostRuntime) {
     drop(host);
 }
 
-const ONE_OF_1_GIB: &str = "0x382, 0x1b02 0 0 0x40000000 0";
+pub(crate) const ONE_OF_1_GIB: &str = "0x382, 0x1b02 0 0 0x40000000 0";
 
-const TWO_WAYS_OF_ONE: &str =
+pub(crate) const TWO_WAYS_OF_ONE: &str =
     "0 1 0 0x100000000 0x20000000 0 0, 1 2 0 0x100000000 0x20000000 0x10 0";
