@@ -13,7 +13,7 @@ from .incoming import bytes_of
 SENTINELS, ANSWERS = b"step\nbegin\n", b"bad line 4 missing\nbad line 5 missing\n"
 BLOCK = 1 << 16  # bytes of a reply that are read at once
 NAMES = ("table", "topology", "image")
-NO_LIBRARY = ("windows, trees, decoders, all places of a broken rule and register writes are told by libcxlplan.so, which is not found: run "
+NO_LIBRARY = ("windows, trees, decoders, all places of a broken rule and register writes come from libcxlplan.so, which is not found: run "
               "./prove --library in the repository, or ./install, or name it in CXLPLAN_LIBRARY")
 WRITING = (b"create", b"destroy", b"begin", b"step", b"abort")  # the lines that may write registers
 

@@ -11,7 +11,7 @@ from typing import Optional
 from .errors import NoEngine
 
 HOW = ("neither libcxlplan.so nor the program cxlplan is found: run ./prove in the repository, or ./install, or name one in "
-       "CXLPLAN_LIBRARY or CXLPLAN")
+       "CXLPLAN_LIBRARY or CXLPLAN; CXLPLAN=$(./unproved) names one without a proof")
 HERE = os.path.dirname(os.path.realpath(__file__))
 _kept = threading.local()
 

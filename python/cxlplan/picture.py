@@ -1,13 +1,13 @@
-"""Draws regions that cxlplan tells: their windows, the machine, its memory, and
-who gets which chunk.
+"""Draws regions that cxlplan prints: their windows, the machine, its memory, and
+which device gets which chunk.
 
   cxl-picture CEDT TOPO REPLY NAME
         makes NAME.svg, and NAME.html with the same picture in a page
 
-CEDT and TOPO are the files that cxlplan read, and REPLY is what it answered, or
-- for standard input: the reply of `check`, of `plan`, or of a script with a
-`show` of each region. Neither file may be there yet. Bad input gives one line
-on standard error and status 1.
+CEDT and TOPO are the files that cxlplan read, and REPLY is its output, or - for
+standard input: that of `check`, of `plan`, or of a script with a `show` of each
+region. Neither file may be there yet. Bad input gives one line on standard error
+and status 1.
 """
 
 import html

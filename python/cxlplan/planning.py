@@ -188,7 +188,7 @@ def csv_text(writes) -> str:
 def c_text(name: str, *lists: tuple) -> str:
     """Lists of writes as constants of C, each with what it is for."""
     text = ("#include <stdint.h>\n\n/* Offsets are those in a node's HDM decoder capability structure. Where reads is not 0, go on when the word\n"
-            f"   reads so: within {MOST_WAIT}, or its bit 11 says that the commit failed. */\n"
+            f"   reads so, within {MOST_WAIT}; if bit 11 is set then, the commit has failed. */\n"
             "struct cxl_write { const char *node; uint16_t offset; uint32_t value; uint32_t reads; };\n")
     for what, items in lists:
         text += f"\nstatic const struct cxl_write {c_name(name)}_{what}[{len(items)}] = {{\n"

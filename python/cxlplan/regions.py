@@ -1,4 +1,4 @@
-"""Turns regions that cxlplan tells into commands for Linux, register writes for
+"""Turns regions that cxlplan prints into commands for Linux, register writes for
 firmware, or an image file.
 
   cxl-regions CEDT TOPO REPLY
@@ -8,9 +8,9 @@ firmware, or an image file.
   cxl-regions --image FILE CEDT TOPO REPLY
         makes FILE, an image in which the regions are committed
 
-CEDT and TOPO are the files that cxlplan read, and REPLY is what it answered, or
-- for standard input: the reply of `plan`, of a script with a `show` of each
-region, or, for the first form alone, of `check`. FILE must not be there yet.
+CEDT and TOPO are the files that cxlplan read, and REPLY is its output, or - for
+standard input: that of `plan`, of a script with a `show` of each region, or,
+for the first form only, of `check`. FILE must not be there yet.
 Bad input gives one line on standard error and status 1.
 """
 

@@ -189,7 +189,7 @@ class Engines(Case):
         self.assertEqual((status, lines[0], lines[4]), (8, "breach K12 d4 0", f"At decoder 0 of d4: {NO_LIBRARY}."))
         self.assertEqual(told_by_program("where", *FOUR, "0x110000100")[1], said("where", *FOUR, "0x110000100")[1].splitlines())
         status, lines, _ = told_by_program("plan", "--reset", *FOUR[:2], "r0 pmem 0x40000000 ways=4")
-        self.assertEqual((status, lines[0][:9], lines[-1][:10]), (0, "region r0", "No library"))
+        self.assertEqual((status, lines[0][:9], lines[-1][:12]), (0, "region r0", "Its decoders"))
         status, lines, _ = told_by_program("plan", "--reset", *FOUR[:2], "r0 pmem 0x20000000 d1 d3")
         self.assertEqual((status, lines[0], lines[-1]), (8, "refused no-window", "window 0: its targets are not exactly the bridges of the "
                                                          "endpoints. To do: name endpoints below exactly its targets."))

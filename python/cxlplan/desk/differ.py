@@ -1,4 +1,4 @@
-"""`diff`: what is another in one capture than in another, by window, node, decoder and region."""
+"""`diff`: what differs between two captures, by window, node, decoder and region."""
 
 from dataclasses import fields
 

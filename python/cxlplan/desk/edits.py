@@ -53,7 +53,7 @@ class TableText:
 
 def back(parser, what: str) -> None:
     parser.add_argument("--from", metavar="TEXT", dest="text", help=f"makes {what}; - is standard input")
-    parser.add_argument("--to", metavar="FILE", help="the file that is made")
+    parser.add_argument("--to", metavar="FILE", help="the file to make")
 
 
 def text_of(file: str) -> str:

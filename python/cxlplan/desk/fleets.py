@@ -1,4 +1,4 @@
-"""`fleet`: thousands of captures judged, as JSON lines or in a SQLite file."""
+"""`fleet`: checks thousands of captures, into JSON lines or a SQLite file."""
 
 import os
 import sys
@@ -16,8 +16,8 @@ MOST_JOBS = 1024
 def arguments(parser) -> None:
     parser.add_argument("words", nargs="+", metavar="DIR", help="folders with hosts in or below them")
     parser.add_argument("--db", metavar="FILE", help="a SQLite file with the tables hosts, breaches, regions and decoders")
-    parser.add_argument("--out", metavar="FILE", help="a file of JSON lines; hosts that it has are passed over")
-    parser.add_argument("--jobs", metavar="N", help="on so many processors; without it on all")
+    parser.add_argument("--out", metavar="FILE", help="a file of JSON lines; hosts that it has already are skipped")
+    parser.add_argument("--jobs", metavar="N", help="how many processors to use; by default all")
 
 
 def work(options) -> int:

@@ -13,20 +13,20 @@ from .words import Parser
 
 # By the word of the command: the module where its words are said and where it is carried out, which is read where it is asked for.
 COMMANDS = {
-    "show": ("showing", "windows, tree, decoders and regions, also of registers that are refused"),
-    "check": ("checking", "whether the registers are sound; else which rule is broken where, what was found, what is wanted and why"),
-    "where": ("whereis", "host addresses to device bytes and back, ranges of both, poison lists to host ranges"),
+    "show": ("showing", "windows, tree, decoders and regions, even if check refuses the registers"),
+    "check": ("checking", "whether the registers are sound; if not, which rule they break, where, what is there and what it wants"),
+    "where": ("whereis", "host addresses to device bytes and back, also ranges, and poison lists to host ranges"),
     "room": ("rooms", "what is free, and the largest regions that have a plan"),
-    "plan": ("planned", "what a new region needs, or what stands in its way; what taking one down would write"),
-    "diff": ("differ", "what is another in one capture than in another"),
+    "plan": ("planned", "what a new region needs, or what is in its way; what destroying one would write"),
+    "diff": ("differ", "what differs between two captures"),
     "report": ("reports", "one self-contained page on a host, for a bug report"),
-    "fleet": ("fleets", "thousands of captures judged, as JSON lines or in a SQLite file"),
+    "fleet": ("fleets", "checks thousands of captures, into JSON lines or a SQLite file"),
     "shell": ("shell", "a session at a terminal"),
-    "image": ("edits", "registers as text that can be edited, and back"),
-    "table": ("edits", "a table as text that can be edited, and back"),
+    "image": ("edits", "registers as text that you can edit, and back"),
+    "table": ("edits", "a table as text that you can edit, and back"),
 }
 
-HOST = """HOST is a folder that cxl-capture made, or three files: CEDT TOPO IMAGE, of which one may be - for standard input."""
+HOST = """HOST is a folder that cxl-capture made, or three files: CEDT TOPO IMAGE; one of them may be - for standard input."""
 
 
 def module_of(command: str):
@@ -44,8 +44,8 @@ def parser_of(command: str) -> Parser:
     for name, (_, about) in COMMANDS.items():
         sub = commands.add_parser(name, help=about, description=f"{about[0].upper()}{about[1:]}.", epilog=HOST, allow_abbrev=False)
         if name == command:
-            sub.add_argument("--json", action="store_true", help="JSON, by python/cxlplan/schema.json")
-            sub.add_argument("--aligned", action="store_true", help="aligned columns, also where standard output is no terminal")
+            sub.add_argument("--json", action="store_true", help="JSON, as python/cxlplan/schema.json describes it")
+            sub.add_argument("--aligned", action="store_true", help="aligned columns, even if standard output is no terminal")
             module_of(name).arguments(sub)
     return parser
 

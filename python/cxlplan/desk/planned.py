@@ -15,12 +15,12 @@ from .words import take_host
 
 def arguments(parser) -> None:
     parser.add_argument("words", nargs="+", metavar="HOST LINE",
-                        help="LINE is create NAME KIND SIZE [gran=G] EP.. or ways=N; create may be left out; or destroy NAME")
+                        help="LINE is [create] NAME KIND SIZE [gran=G] EP.., the same with ways=N for EP.., or destroy NAME")
     parser.add_argument("--reset", action="store_true", help="on a machine after reset, without an image")
     forms = parser.add_mutually_exclusive_group()
-    forms.add_argument("--linux", action="store_true", help="the `cxl create-region` line")
-    forms.add_argument("--words", action="store_true", dest="register_writes", help="the register writes, and those that take it down again")
-    forms.add_argument("--c", action="store_true", help="both as constants of C")
+    forms.add_argument("--linux", action="store_true", help="the `cxl create-region` command")
+    forms.add_argument("--words", action="store_true", dest="register_writes", help="the register writes, and those that destroy the region")
+    forms.add_argument("--c", action="store_true", help="both as C constants")
     forms.add_argument("--csv", action="store_true", help="the writes as CSV")
     forms.add_argument("--image", metavar="FILE", help="makes FILE, the image of the host with the region")
 
@@ -54,7 +54,7 @@ def made(host: Host, line: str, options) -> Answer:
         return add_text(said, making_text(host, found, options))
     region_rows(said, [found.region])
     if not found.decoders:
-        return said.line("No library tells its decoders: run ./prove --library in the repository, or ./install.")
+        return said.line("Its decoders come from the library: run ./prove --library in the repository, or ./install.")
     return said.rows("decoder", [decoder_row(it) for it in found.decoders])
 
 
@@ -70,7 +70,7 @@ def released(host: Host, words: list, options) -> Answer:
     if wants_writes:
         return add_text(said, releasing_text(host, found, options))
     region_rows(said, [found.region])
-    return said.line("It can be taken down; --words tells the register writes.")
+    return said.line("It can be destroyed; --words prints the register writes.")
 
 
 def facts_of(found, with_writes: bool) -> dict:
@@ -86,7 +86,7 @@ def making_text(host: Host, found: Planned, options) -> str:
     if options.c:
         return c_text(name, ("create", writes), ("destroy", found.undo))
     makes = (f"{name}: {len(writes)} writes of 32 bits make it. Offsets are those in a node's HDM decoder capability structure.\n"
-             f"# A commit is done when its word reads as is said, within {MOST_WAIT}; if bit 11 is set then, it has failed.")
+             f"# A commit is done when its word reads as shown, within {MOST_WAIT}; if bit 11 is set then, it has failed.")
     return words_text(host, makes, writes) + "\n" + words_text(host, f"{name}: {len(found.undo)} writes take it down.", found.undo)
 
 

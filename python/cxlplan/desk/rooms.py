@@ -9,7 +9,7 @@ from .words import only_host
 def arguments(parser) -> None:
     parser.add_argument("words", nargs="*", metavar="HOST")
     parser.add_argument("--reset", action="store_true", help="as after reset, without an image")
-    parser.add_argument("--kind", choices=("ram", "pmem"), help="regions of one kind alone")
+    parser.add_argument("--kind", choices=("ram", "pmem"), help="only regions of this kind")
 
 
 def answer(options) -> Answer:

@@ -10,7 +10,7 @@ from .words import only_host
 def arguments(parser) -> None:
     parser.add_argument("words", nargs="*", metavar="HOST")
     parser.add_argument("--reset", action="store_true", help="as after reset, without an image")
-    parser.add_argument("--all", action="store_true", help="also decoders that are not committed and hold nothing")
+    parser.add_argument("--all", action="store_true", help="also decoders that are not committed and empty")
 
 
 def answer(options) -> Answer:

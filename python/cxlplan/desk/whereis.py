@@ -16,7 +16,7 @@ UNIT = 64  # bytes, of which a poison record counts
 
 def arguments(parser) -> None:
     parser.add_argument("words", nargs="+", metavar="HOST ..", help="HOST HPA, HOST ENDPOINT DPA, or HOST ENDPOINT with --poison")
-    parser.add_argument("--length", metavar="N", help="so many bytes from there on, and not one")
+    parser.add_argument("--length", metavar="N", help="N bytes from there on; by default one")
     parser.add_argument("--poison", metavar="FILE", help="the endpoint's poison list, as the mailbox gives it; - is standard input")
     parser.add_argument("--reset", action="store_true", help="as after reset, without an image")
 
