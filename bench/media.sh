@@ -1,8 +1,8 @@
 #!/usr/bin/env bash
 # Measures the shipped media (`SimMedia`): what commands take by the frames that the topology states, of which a block
-# or two are in use (instructions by callgrind, so it wants valgrind); and as the frames fill up the time of a put, a
-# get and a scrub, and how many cells of its index a probe meets, counted outside of it with the same homes and the
-# same rule.
+# or two are in use, and by the blocks of another region (instructions by callgrind, so it wants valgrind); and as the
+# frames fill up the time of a put, a get and a scrub, and how many cells of its index a probe meets, counted outside of
+# it with the same homes and the same rule.
 #
 # bench/media.sh commands      the commands alone, by the built program, or by that which CXLPLAN names
 # bench/media.sh [FRAMES..]    the rest, at 65536 and 1048576, unless other numbers of frames (100 to 1048576) are given
@@ -58,10 +58,33 @@ def instructions(script):
     return int(re.search(r"Collected : (\d+)", ran.stderr.decode())[1])
 
 
-print(f"{'frames':>8} {'':<28}{'instructions':>14}{'µs':>10}{'page faults of an empty script':>34}")
-for frames in (1000, 65536, 1048576):
+def topology(frames):
     put("m.toml", f'frames = {frames}\nbridge = [{{ name = "hb0", uid = 0, decoders = 10 }}]\n'
         f'endpoint = [{{ name = "e0", parent = "hb0", port = 0, ram = {4 * UNIT}, decoders = 10 }}]\n')
+
+
+def created(name, base):
+    return f"created {name} window 0 base 0x{base:x} size 0x{UNIT:x} gran 256 ways 1\n"
+
+
+def beside(blocks):
+    """What a move and a create with its destroy take where another region of the endpoint has so many blocks."""
+    made = f"create d ram {UNIT} e0\n" + "".join(f"store 0x{BASE + 256 * n:x} 5a\n" for n in range(blocks))
+    made += f"create a ram {UNIT} e0\ncreate b ram {UNIT} e0\nstore 0x{BASE + UNIT:x} 5a\n"
+    says = [created("d", BASE)] + ["stored 1\n"] * blocks + [created("a", BASE + UNIT), created("b", BASE + 2 * UNIT), "stored 1\n"]
+    base = instructions(made)
+    last = BASE + 3 * UNIT
+    for name, lines, more, each in (
+            ("move of one piece", "move a b\nmove b a\n", ["moved a b pieces 1\n", "moved b a pieces 1\n"], 2),
+            ("create, destroy", f"create c ram {UNIT} e0\ndestroy c\n", [created("c", last), "destroyed c\n"], 1)):
+        script = made + lines * ROUNDS
+        run(script, says + more * ROUNDS)
+        print(f"{blocks:>8} {name:<28}{(instructions(script) - base) / (each * ROUNDS):>14.0f}")
+
+
+print(f"{'frames':>8} {'':<28}{'instructions':>14}{'µs':>10}{'page faults of an empty script':>34}")
+for frames in (1000, 65536, 1048576):
+    topology(frames)
     faults = min(run("", [])[1] for _ in range(5))
     base = instructions(MAKE)
     alone = min(run(MAKE, MADE)[0] for _ in range(5))
@@ -70,6 +93,10 @@ for frames in (1000, 65536, 1048576):
         took = min(run(script, MADE + says * ROUNDS)[0] for _ in range(5)) - alone
         each = (instructions(script) - base) / (2 * ROUNDS)
         print(f"{frames:>8} {name:<28}{each:>14.0f}{max(took, 0) * 1e6 / (2 * ROUNDS):>10.1f}{faults:>34}")
+print()
+print(f"{'blocks':>8} {'of another region':<28}{'instructions':>14}")
+for blocks in (0, 16000, 60000, 250000):
+    beside(blocks)
 print()
 END
     python3 "$work/commands.py" "$cxlplan" "$work"
