@@ -1,5 +1,6 @@
 //! Tests of worked hosts that no command shows, written as a few numbers each: where addresses lead by kept routes and by registers,
-//! why one leads nowhere, images of other nodes than the host's, all places that break a rule, and why each does.
+//! why one leads nowhere, images of other nodes than the host's, all places that break a rule, why each does,
+//! and why no set of endpoints has a legal plan.
 #![tactic(auto)]
 
 #[cfg(test)]
@@ -10,6 +11,8 @@ mod causes;
 mod host_texts;
 #[cfg(test)]
 mod hosts;
+#[cfg(test)]
+mod reasons;
 #[cfg(test)]
 mod rows;
 #[cfg(test)]

@@ -1,0 +1,13 @@
+pub mod Lists
+pub mod Levels
+pub mod Rooms
+pub mod Offers
+pub mod Orders
+pub mod Parts
+pub mod Targets
+pub mod Halving
+pub mod Opens
+pub mod Fresh
+pub mod Leading
+pub mod FirstReasons
+pub mod RoomReasons

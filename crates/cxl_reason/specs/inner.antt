@@ -1,0 +1,4 @@
+pub mod Asked
+pub mod Gifts
+pub mod Ready
+pub mod Sizes
