@@ -32,6 +32,46 @@ fn answer<'a>(words: &[&str], files: &[Vec<u8>], room: &'a mut [u8]) -> cxlplan:
     }
 }
 
+/// Whether a session tells by its calls what it told to a line that has one: `down`, `up` and `load`.
+fn agrees(session: &mut cxlplan::Session, line: &str, text: &[u8]) -> bool {
+    let refusal = |refused: cxlplan::Refused| match refused.refusal.kind {
+        _ if refused.status != cxlplan::REFUSED => "not asked".to_string(),
+        cxlplan::UNMAPPED => "unmapped\n".to_string(),
+        cxlplan::CROSSES_END => "crosses end\n".to_string(),
+        cxlplan::NO_ENDPOINT => format!("no such endpoint {}\n", line.split(' ').nth(1).unwrap_or_default()),
+        kind => format!("refusal {kind}"),
+    };
+    let text = String::from_utf8_lossy(text);
+    match line.split_whitespace().collect::<Vec<_>>()[..] {
+        ["down", at] => match session.down(number(at)) {
+            Ok(place) => {
+                let front = format!(" region {} slot {} position {} via ", place.region.as_str(), place.slot, place.position);
+                text.contains(&front) && text.ends_with(&format!(" dpa {:#x}\n", place.dpa))
+            }
+            Err(refused) => text == refusal(refused),
+        },
+        ["up", endpoint, at] => match session.up(endpoint, number(at)) {
+            Ok(byte) => text == format!("host {:#x} region {}\n", byte.hpa, byte.region.as_str()),
+            Err(refused) => text == refusal(refused),
+        },
+        ["load", at, count] => {
+            let mut bytes = vec![0; number(count) as usize];
+            match session.load(number(at), &mut bytes) {
+                Ok(()) => text == format!("bytes {}\n", bytes.iter().map(|byte| format!("{byte:02x}")).collect::<String>()),
+                Err(refused) => text == refusal(refused),
+            }
+        }
+        ["store", at, digits] => {
+            let bytes: Vec<u8> = (0..digits.len() / 2).map(|i| u8::from_str_radix(&digits[2 * i..2 * i + 2], 16).expect("a byte")).collect();
+            match session.store(number(at), &bytes) {
+                Ok(()) => text == format!("stored {}\n", bytes.len()),
+                Err(refused) => text == refusal(refused),
+            }
+        }
+        _ => true,
+    }
+}
+
 /// What a session answers to the lines of a script, and the status behind the last.
 fn line_by_line(files: &[Vec<u8>], to: &mut impl Write) -> u8 {
     let mut room = vec![0; 1 << 22];
@@ -47,6 +87,10 @@ fn line_by_line(files: &[Vec<u8>], to: &mut impl Write) -> u8 {
         to.write_all(told.text).expect("standard output");
         if told.status != cxlplan::DONE {
             return told.status;
+        }
+        // a line that asks for nothing is answered by its fault
+        if let (Ok(line), false) = (std::str::from_utf8(line), told.text.starts_with(b"bad line")) {
+            assert!(agrees(&mut session, line, told.text), "{line}");
         }
     }
     let mut rows = [cxlplan::Word::default(); 4];
