@@ -66,7 +66,8 @@ _BYTES = [ctypes.c_void_p, ctypes.c_size_t]
 _ROOM = [ctypes.c_void_p, ctypes.c_size_t, ctypes.POINTER(ctypes.c_size_t)]
 _ROWS = [ctypes.POINTER(Word), ctypes.c_size_t, ctypes.POINTER(ctypes.c_size_t)]
 _SESSION = ctypes.POINTER(_Handle)
-_REFUSAL = ctypes.POINTER(Refusal)
+_PLACE, _HOST_BYTE, _REFUSAL = map(ctypes.POINTER, (Place, HostByte, Refusal))
+_FILLED = _BYTES
 # What each function of the header takes before the room.
 _TAKES = {
     "route": [*_BYTES, ctypes.c_uint64],
@@ -91,9 +92,9 @@ _ON_SESSION = {
     "session_words": [_SESSION, *_ROWS],
     "session_image": [_SESSION, *_ROOM],
     "session_close": [_SESSION],
-    "session_down": [_SESSION, ctypes.c_uint64, ctypes.POINTER(Place), _REFUSAL],
-    "session_up": [_SESSION, *_BYTES, ctypes.c_uint64, ctypes.POINTER(HostByte), _REFUSAL],
-    "session_load": [_SESSION, ctypes.c_uint64, *_BYTES, _REFUSAL],
+    "session_down": [_SESSION, ctypes.c_uint64, _PLACE, _REFUSAL],
+    "session_up": [_SESSION, *_BYTES, ctypes.c_uint64, _HOST_BYTE, _REFUSAL],
+    "session_load": [_SESSION, ctypes.c_uint64, *_FILLED, _REFUSAL],
     "session_store": [_SESSION, ctypes.c_uint64, *_BYTES, _REFUSAL],
 }
 
