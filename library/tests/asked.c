@@ -3,95 +3,14 @@
    exit status is that of the last call. `asked careless CEDT TOPO`, `asked memory CEDT TOPO` and `asked threads CEDT TOPO` say what is
    wrong, and end with 0 where nothing is; `asked times CEDT TOPO SCRIPT NAME` tells nanoseconds of a processor a call behind a script. */
 #define _POSIX_C_SOURCE 199309L
-#include <cxlplan.h>
+#include "tried.h"
 #include <inttypes.h>
 #include <pthread.h>
-#include <stdio.h>
-#include <stdlib.h>
-#include <string.h>
 #include <time.h>
 
-enum { ROOM = 1 << 22, NODES = 4096, TURNS = 300, MARK = 0xa5 };
+enum { NODES = 4096, MARK = 0xa5 };
 
-static int faults;
-
-static void expect(int holds, const char *what, long at)
-{
-    if (!holds && ++faults < 20)
-        printf("%s, at %ld\n", what, at);
-}
-
-/* ---- memory that is refused */
-
-static int is_counted;
-static long calls, refused, live;
-
-void *__real_malloc(size_t size);
-void *__real_realloc(void *old, size_t size);
-void __real_free(void *old);
-void *__wrap_malloc(size_t size);
-void *__wrap_realloc(void *old, size_t size);
-void __wrap_free(void *old);
-
-static int is_refused(void)
-{
-    return is_counted && calls++ == refused;
-}
-
-void *__wrap_malloc(size_t size)
-{
-    void *made = is_refused() ? NULL : __real_malloc(size);
-
-    if (is_counted && made)
-        live++;
-    return made;
-}
-
-void *__wrap_realloc(void *old, size_t size)
-{
-    void *made = is_refused() ? NULL : __real_realloc(old, size);
-
-    if (is_counted && made && !old)
-        live++;
-    return made;
-}
-
-void __wrap_free(void *old)
-{
-    if (is_counted && old)
-        live--;
-    __real_free(old);
-}
-
-/* ---- files */
-
-struct file {
-    void *bytes;
-    size_t len;
-};
-
-static struct file cedt, topo, script, image;
 static char room[ROOM];
-
-static struct file read_file(const char *name)
-{
-    struct file file = {malloc(1 << 20), 0};
-    FILE *from = fopen(name, "rb");
-
-    if (!from || !file.bytes) {
-        perror(name);
-        exit(70);
-    }
-    file.len = fread(file.bytes, 1, 1 << 20, from);
-    fclose(from);
-    file.bytes = realloc(file.bytes, file.len ? file.len : 1);
-    return file;
-}
-
-static int open_on(struct cxlplan_session *session, size_t *written)
-{
-    return cxlplan_session_open(session, cedt.bytes, cedt.len, topo.bytes, topo.len, image.bytes, image.len, room, ROOM, written);
-}
 
 /* The names of the nodes, by number. */
 static char names[NODES][16];
@@ -137,21 +56,24 @@ static void print_place(uint64_t hpa, const struct cxlplan_place *place)
     printf(" endpoint %s dpa 0x%" PRIx64 "\n", names[place->endpoint], place->dpa);
 }
 
-static void print_refusal(int status, const struct cxlplan_refusal *refusal, const char *endpoint)
+/* What the last command was refused with. */
+static struct cxlplan_refusal refusal;
+
+static void print_refusal(int status, const char *endpoint)
 {
     expect(status == CXLPLAN_REFUSED, "the status of a refusal", status);
-    expect(refusal->count == (refusal->kind == CXLPLAN_FULL ? 2 : 0), "the numbers of a refusal", refusal->count);
-    expect(refusal->count || (!refusal->first && !refusal->second), "no number", refusal->kind);
-    if (refusal->kind == CXLPLAN_UNMAPPED)
+    expect(refusal.count == (refusal.kind == CXLPLAN_FULL ? 2 : 0), "the numbers of a refusal", refusal.count);
+    expect(refusal.count || (!refusal.first && !refusal.second), "no number", refusal.kind);
+    if (refusal.kind == CXLPLAN_UNMAPPED)
         printf("unmapped\n");
-    else if (refusal->kind == CXLPLAN_CROSSES_END)
+    else if (refusal.kind == CXLPLAN_CROSSES_END)
         printf("crosses end\n");
-    else if (refusal->kind == CXLPLAN_NO_ENDPOINT)
+    else if (refusal.kind == CXLPLAN_NO_ENDPOINT)
         printf("no such endpoint %s\n", endpoint);
-    else if (refusal->kind == CXLPLAN_FULL)
-        printf("full need %" PRIu64 " free %" PRIu64 "\n", refusal->first, refusal->second);
+    else if (refusal.kind == CXLPLAN_FULL)
+        printf("full need %" PRIu64 " free %" PRIu64 "\n", refusal.first, refusal.second);
     else
-        printf("refusal %" PRIu32 "\n", refusal->kind);
+        printf("refusal %" PRIu32 "\n", refusal.kind);
 }
 
 /* ---- lines that go by calls */
@@ -182,47 +104,75 @@ static size_t bytes_of(const char *word, uint8_t *bytes)
     return len;
 }
 
+static int call_down(struct cxlplan_session *session, uint64_t at)
+{
+    struct cxlplan_place place;
+    int status = cxlplan_session_down(session, at, &place, &refusal);
+
+    if (status == CXLPLAN_DONE)
+        print_place(at, &place);
+    return status;
+}
+
+static int call_up(struct cxlplan_session *session, const char *endpoint, uint64_t at)
+{
+    struct cxlplan_host_byte byte;
+    int status = cxlplan_session_up(session, endpoint, strlen(endpoint), at, &byte, &refusal);
+
+    if (status == CXLPLAN_DONE) {
+        printf("host 0x%" PRIx64 " region ", byte.hpa);
+        print_name(&byte.region);
+        printf("\n");
+    }
+    return status;
+}
+
+static int call_load(struct cxlplan_session *session, uint64_t at, size_t len)
+{
+    uint8_t bytes[256];
+    int status = cxlplan_session_load(session, at, bytes, len, &refusal);
+
+    for (size_t i = 0; status == CXLPLAN_DONE && i < len; i++)
+        printf("%s%02x%s", i ? "" : "bytes ", bytes[i], i + 1 < len ? "" : "\n");
+    return status;
+}
+
+static int call_store(struct cxlplan_session *session, uint64_t at, const uint8_t *bytes, size_t len)
+{
+    int status = cxlplan_session_store(session, at, bytes, len, &refusal);
+
+    if (status == CXLPLAN_DONE)
+        printf("stored %zu\n", len);
+    return status;
+}
+
+static int is_name(const char *word)
+{
+    return strlen(word) < 16 && strspn(word, "abcdefghijklmnopqrstuvwxyzABCDEFGHIJKLMNOPQRSTUVWXYZ0123456789_") == strlen(word);
+}
+
 /* Carries out a line by its call and prints the answer, if it is one that a call has; the answer's status, or -1. */
 static int by_call(struct cxlplan_session *session, const char *line)
 {
     char verb[8], first[600], second[600], more;
     uint8_t bytes[256];
     uint64_t at, number;
-    struct cxlplan_refusal refusal = {99, 99, 99, 99};
     int count = sscanf(line, "%7s %599s %599s %c", verb, first, second, &more), status = -1;
     size_t len;
 
-    if (count == 2 && !strcmp(verb, "down") && is_number(first, &at)) {
-        struct cxlplan_place place;
-        status = cxlplan_session_down(session, at, &place, &refusal);
-        if (status == CXLPLAN_DONE)
-            print_place(at, &place);
-    } else if (count == 3 && !strcmp(verb, "up") && is_number(second, &at) && strlen(first) < 16
-               && strspn(first, "abcdefghijklmnopqrstuvwxyzABCDEFGHIJKLMNOPQRSTUVWXYZ0123456789_") == strlen(first)) {
-        struct cxlplan_host_byte byte;
-        status = cxlplan_session_up(session, first, strlen(first), at, &byte, &refusal);
-        if (status == CXLPLAN_DONE) {
-            printf("host 0x%" PRIx64 " region ", byte.hpa);
-            print_name(&byte.region);
-            printf("\n");
-        }
-    } else if (count == 3 && !strcmp(verb, "load") && is_number(first, &at) && is_number(second, &number) && number && number <= 256) {
-        status = cxlplan_session_load(session, at, bytes, number, &refusal);
-        if (status == CXLPLAN_DONE) {
-            printf("bytes ");
-            for (size_t i = 0; i < number; i++)
-                printf("%02x", bytes[i]);
-            printf("\n");
-        }
-    } else if (count == 3 && !strcmp(verb, "store") && is_number(first, &at) && (len = bytes_of(second, bytes))) {
-        status = cxlplan_session_store(session, at, bytes, len, &refusal);
-        if (status == CXLPLAN_DONE)
-            printf("stored %zu\n", len);
-    }
+    memset(&refusal, MARK, sizeof refusal);
+    if (count == 2 && !strcmp(verb, "down") && is_number(first, &at))
+        status = call_down(session, at);
+    else if (count == 3 && !strcmp(verb, "up") && is_number(second, &at) && is_name(first))
+        status = call_up(session, first, at);
+    else if (count == 3 && !strcmp(verb, "load") && is_number(first, &at) && is_number(second, &number) && number && number <= 256)
+        status = call_load(session, at, number);
+    else if (count == 3 && !strcmp(verb, "store") && is_number(first, &at) && (len = bytes_of(second, bytes)))
+        status = call_store(session, at, bytes, len);
     if (status == CXLPLAN_DONE)
         expect(!refusal.kind && !refusal.count && !refusal.first && !refusal.second, "no refusal", (long)refusal.kind);
     else if (status >= 0)
-        print_refusal(status, &refusal, first);
+        print_refusal(status, first);
     return status;
 }
 
@@ -231,7 +181,7 @@ static int lines(void)
     struct cxlplan_session session = CXLPLAN_NO_SESSION;
     const char *at = script.bytes, *end = at + script.len, *next;
     size_t written = 0, count = 1;
-    int status = open_on(&session, &written);
+    int status = open_on(&session, room, ROOM, &written);
     char line[1300];
 
     fwrite(room, 1, written, stdout);
@@ -316,13 +266,14 @@ static void unfit(struct cxlplan_session *session)
     struct cxlplan_session *odd = (struct cxlplan_session *)(void *)(told.all + 1);
     struct cxlplan_refusal *refusal = &told.is.refusal, *in_place = (struct cxlplan_refusal *)(void *)&told.is.place;
     void *odd_bytes = told.all + 1, *held = session->held;
+    struct cxlplan_host_byte own = {0};
 
     mark();
     expect(cxlplan_session_down(NULL, base, &told.is.place, refusal) == CXLPLAN_USAGE, "no handle", 0);
     expect(cxlplan_session_down(odd, base, &told.is.place, refusal) == CXLPLAN_USAGE, "an odd handle", 0);
     expect(cxlplan_session_down(session, base, NULL, refusal) == CXLPLAN_USAGE, "no place", 0);
     expect(cxlplan_session_down(session, base, odd_bytes, refusal) == CXLPLAN_USAGE, "an odd place", 0);
-    expect(cxlplan_session_down(session, base, &told.is.place, odd_bytes) == CXLPLAN_USAGE, "an odd refusal", 0);
+    expect(cxlplan_session_down(session, base, &told.is.place, (void *)(told.is.bytes + 1)) == CXLPLAN_USAGE, "an odd refusal", 0);
     expect(cxlplan_session_down(session, base, &told.is.place, in_place) == CXLPLAN_USAGE, "a refusal in the place", 0);
     expect(cxlplan_session_down(session, base, (struct cxlplan_place *)session, refusal) == CXLPLAN_USAGE, "a handle for a place", 0);
     expect(cxlplan_session_down(session, base, &told.is.place, (struct cxlplan_refusal *)session) == CXLPLAN_USAGE, "a handle", 0);
@@ -331,7 +282,6 @@ static void unfit(struct cxlplan_session *session)
     expect(cxlplan_session_up(session, "d1", SIZE_MAX, 0, &told.is.byte, refusal) == CXLPLAN_USAGE, "the length of a name", 0);
     expect(cxlplan_session_up(session, "d1", 2, 0, NULL, refusal) == CXLPLAN_USAGE, "no host byte", 0);
     expect(cxlplan_session_up(session, "d1", 2, 0, odd_bytes, refusal) == CXLPLAN_USAGE, "an odd host byte", 0);
-    expect(cxlplan_session_up(session, &told.is.byte, 2, 0, &told.is.byte, refusal) == CXLPLAN_USAGE, "a name in the host byte", 0);
     expect(cxlplan_session_up(session, refusal, 2, 0, &told.is.byte, refusal) == CXLPLAN_USAGE, "a name in the refusal", 0);
     expect(cxlplan_session_load(NULL, base, told.is.bytes, 4, refusal) == CXLPLAN_USAGE, "no handle of a load", 0);
     expect(cxlplan_session_load(session, base, NULL, 4, refusal) == CXLPLAN_USAGE, "a load into null", 4);
@@ -343,6 +293,8 @@ static void unfit(struct cxlplan_session *session)
     expect(cxlplan_session_store(session, base, refusal, 1, refusal) == CXLPLAN_USAGE, "a store of the refusal", 1);
     expect(cxlplan_session_store(session, base, "1", SIZE_MAX / 2 + 1, refusal) == CXLPLAN_USAGE, "the length of a store", -1);
     expect(is_marked(), "what is not fit is not written", 0);
+    memcpy(&own, "d1", 2);
+    expect(cxlplan_session_up(session, &own, 2, 0, &own, NULL) == CXLPLAN_USAGE, "a name in the host byte", 2);
     expect(session->held == held, "the session stays", 1);
 }
 
@@ -379,7 +331,7 @@ static void careless(void)
     size_t written = 0;
 
     unasked(&session);
-    expect(open_on(&session, &written) == CXLPLAN_DONE, "opened", 0);
+    expect(open_on(&session, room, ROOM, &written) == CXLPLAN_DONE, "opened", 0);
     unasked(&session);
     unfit(&session);
     expect(cxlplan_session_act(&session, create, CREATE, room, ROOM, &written) == CXLPLAN_DONE, "a region", 0);
@@ -401,7 +353,7 @@ static void memory(void)
     uint8_t now[4];
     int status;
 
-    open_on(&session, &written);
+    open_on(&session, room, ROOM, &written);
     cxlplan_session_act(&session, create, CREATE, room, ROOM, &written);
     for (uint8_t turn = 0; turn < 4; turn++) {
         uint8_t bytes[4] = {turn, 1, 2, 3};
@@ -490,7 +442,6 @@ static void times(const char *endpoint)
 {
     struct cxlplan_session session = CXLPLAN_NO_SESSION;
     enum { COUNT = 1000000 };
-    struct cxlplan_refusal refusal;
     struct cxlplan_place place;
     struct cxlplan_host_byte byte;
     uint8_t bytes[8] = {1};
@@ -498,7 +449,7 @@ static void times(const char *endpoint)
     double start;
     int any;
 
-    if (open_on(&session, &written) || cxlplan_session_act(&session, script.bytes, script.len, room, ROOM, &written))
+    if (open_on(&session, room, ROOM, &written) || cxlplan_session_act(&session, script.bytes, script.len, room, ROOM, &written))
         exit(70);
 #define TIME(what, call)                                                                      \
     for (start = nanoseconds(), any = 0, written = 0; written < COUNT; written++)             \
