@@ -5,7 +5,6 @@ use cxl_enc::{
     Caps, Factors, FailingCalls, FixedList, Name, cap_word, code_of, gran_code, gran_of, legal_cap,
     split, ways_of,
 };
-use std::process::Abort;
 
 /// A code of the CXL HDM decoder control, with its number of ways and its granularity, where 0 is none.
 struct Code {
@@ -49,19 +48,12 @@ fn stands_for_bytes(code: u8, bytes: u32) -> bool {
     }
 }
 
-fn stand_for(rt: &impl Abort, rows: &[Code]) {
-    for row in rows {
-        row_passes(
-            rt,
-            row.name,
-            stands_for(row.code, row.ways) && stands_for_bytes(row.code, row.bytes),
-        );
-    }
-}
-
 #[test]
 fn codes(rt: HostRuntime) {
-    stand_for(&rt, CODES);
+    for row in CODES {
+        let right = stands_for(row.code, row.ways) && stands_for_bytes(row.code, row.bytes);
+        row_passes(&rt, row.name, right);
+    }
 }
 
 #[test]
@@ -97,15 +89,11 @@ const WORDS: &[Word] = rows! {
     "a hyphen", "a-b", false;
 };
 
-fn are_names(rt: &impl Abort, rows: &[Word]) {
-    for row in rows {
-        row_passes(rt, row.name, is_name(row.word) == row.named);
-    }
-}
-
 #[test]
 fn names(rt: HostRuntime) {
-    are_names(&rt, WORDS);
+    for row in WORDS {
+        row_passes(&rt, row.name, is_name(row.word) == row.named);
+    }
     assert!(rt; Name::read(b"e_15") == Name::read(b"e_15"));
 }
 
@@ -150,15 +138,15 @@ const LEGAL: &[CapWord] = rows! {
     "decoder count code 6", 0x386, false, false;
 };
 
-fn are_legal(rt: &impl Abort, rows: &[CapWord]) {
-    for row in rows {
-        row_passes(rt, row.name, legal_cap(row.word, row.endpoint) == row.legal);
-    }
-}
-
 #[test]
 fn legal_words(rt: HostRuntime) {
-    are_legal(&rt, LEGAL);
+    for row in LEGAL {
+        row_passes(
+            &rt,
+            row.name,
+            legal_cap(row.word, row.endpoint) == row.legal,
+        );
+    }
 }
 
 #[test]

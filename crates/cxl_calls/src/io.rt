@@ -31,19 +31,12 @@ const WORDS: &[(&str, &str)] = &[
     ("99999999999999999999 ", "Err(BadDigit(20))"),
 ];
 
-fn are_read(rt: &(impl Abort + AllocGlobal), rows: &[(&str, &str)]) {
-    for (word, want) in rows {
-        row_passes(
-            rt,
-            *word,
-            shows(rt.alloc(), &read_number(word.as_bytes()), *want),
-        );
-    }
-}
-
 #[test]
 fn numbers_read(rt: HostRuntime) {
-    are_read(&rt, WORDS);
+    for (word, want) in WORDS {
+        let read = read_number(word.as_bytes());
+        row_passes(&rt, *word, shows(rt.alloc(), &read, *want));
+    }
 }
 
 /// The number of a word of a million of one digit and then others.
@@ -94,15 +87,11 @@ fn are_put(rt: &(impl Abort + AllocGlobal), row: &Row) -> bool {
     puts(&mut text, row.number, row.width) && text.as_slice() == row.text.as_bytes()
 }
 
-fn are_printed(rt: &(impl Abort + AllocGlobal), rows: &[Row]) {
-    for row in rows {
-        row_passes(rt, row.text, are_put(rt, row));
-    }
-}
-
 #[test]
 fn numbers_printed(rt: HostRuntime) {
-    are_printed(&rt, PRINTED);
+    for row in PRINTED {
+        row_passes(&rt, row.text, are_put(&rt, row));
+    }
 }
 
 /// Whether a text is written.

@@ -7,7 +7,6 @@ use cxl_num::{
     parities_tell_raw_bits, parity, raw_bits_are_replaced, remainders_keep_digits, ways_by,
     with_raw_bits,
 };
-use std::process::Abort;
 
 #[test]
 fn joins_thirds_and_keeps_low_bits(rt: HostRuntime) {
@@ -43,15 +42,11 @@ const PARITIES: &[Parity] = rows! {
     "an address under an XOR map", 0x1_0000_4000 & 0x40_4100, true;
 };
 
-fn have_parities(rt: &impl Abort, rows: &[Parity]) {
-    for row in rows {
-        row_passes(rt, row.name, parity(row.word) == row.odd);
-    }
-}
-
 #[test]
 fn counts_set_bits(rt: HostRuntime) {
-    have_parities(&rt, PARITIES);
+    for row in PARITIES {
+        row_passes(&rt, row.name, parity(row.word) == row.odd);
+    }
 }
 
 /// The map of the worked XOR window takes the bits 8, 14 and 22. No map takes bit 52, and the first map tells the lowest bit.
@@ -110,15 +105,11 @@ fn ends(base: u64, size: u64, want: u64) -> bool {
     }
 }
 
-fn have_ends(rt: &impl Abort, rows: &[Row]) {
-    for row in rows {
-        row_passes(rt, row.name, ends(row.base, row.size, row.end));
-    }
-}
-
 #[test]
 fn ends_below_2_64(rt: HostRuntime) {
-    have_ends(&rt, ENDS);
+    for row in ENDS {
+        row_passes(&rt, row.name, ends(row.base, row.size, row.end));
+    }
 }
 
 #[test]

@@ -77,27 +77,7 @@ const FETCHES: &[Row] = rows! {
     "the first file of a name", "table", "Ok(4)";
 };
 
-fn tell<F: Fetch>(rt: &impl Abort, alloc: Global, memory: &mut F, rows: &[Row]) {
-    for row in rows {
-        row_passes(rt, row.name, tells(alloc, memory, row.file, row.told));
-    }
-}
-
-/// The first file of a name counts, a file may have 1,048,576 bytes, and the fourth fetch is one that
-/// fails.
-#[test]
-fn files_in_memory(rt: HostRuntime) {
-    let mut memory = files(&rt);
-    assert!(rt; gives(rt.alloc(), &mut memory, "table", "CEDT"));
-    tell(&rt, rt.alloc(), &mut memory, FETCHES);
-    drop(memory);
-}
-
-/// Two names are asked for.
-fn misses<F: Fetch>(alloc: Global, memory: &mut F) -> bool {
-    tells(alloc, memory, "table", "Err(Failed)") && tells(alloc, memory, "image", "Err(Failed)")
-}
-
+/// Whether the name at a place among those that were asked for is this one.
 fn is_asked(asked: &[String], place: usize, want: &str) -> bool {
     match asked.get(place) {
         Some(name) => name.as_str() == want,
@@ -105,18 +85,18 @@ fn is_asked(asked: &[String], place: usize, want: &str) -> bool {
     }
 }
 
-/// Whether these two were asked for.
-fn are_asked(asked: &[String]) -> bool {
-    asked.len() == 2 && is_asked(asked, 0, "table") && is_asked(asked, 1, "image")
-}
-
-/// The names are noted in order, whatever comes of them.
+/// The first file of a name counts, a file may have 1,048,576 bytes, and the fourth fetch is one that fails. The names are noted in
+/// order, whatever comes of them.
 #[test]
-fn names_in_memory(rt: HostRuntime) {
-    let alloc = rt.alloc();
-    let mut memory = MemFetch::new(Vec::new(alloc), Vec::new(alloc));
-    assert!(rt; misses(alloc, &mut memory));
-    assert!(rt; are_asked(memory.asked()));
+fn files_in_memory(rt: HostRuntime) {
+    let mut memory = files(&rt);
+    assert!(rt; gives(rt.alloc(), &mut memory, "table", "CEDT"));
+    for row in FETCHES {
+        let told = tells(rt.alloc(), &mut memory, row.file, row.told);
+        row_passes(&rt, row.name, told);
+    }
+    let asked = memory.asked();
+    assert!(rt; asked.len() == 6 && is_asked(asked, 3, "table") && is_asked(asked, 4, "image"));
     drop(memory);
 }
 

@@ -80,15 +80,11 @@ fn is_read(rt: &(impl Abort + AllocGlobal), row: &Row) -> bool {
     gives(rt, &mut MemSource::new(bytes, fails), row.answers)
 }
 
-fn are_read(rt: &(impl Abort + AllocGlobal), rows: &[Row]) {
-    for row in rows {
-        row_passes(rt, row.name, is_read(rt, row));
-    }
-}
-
 #[test]
 fn lines(rt: HostRuntime) {
-    are_read(&rt, SOURCES);
+    for row in SOURCES {
+        row_passes(&rt, row.name, is_read(&rt, row));
+    }
 }
 
 /// A reader of the system's interface, here over bytes in memory.
