@@ -247,11 +247,13 @@ class Trial:
             self.tally.say(f"does not destroy {name}: {' / '.join(said.strip().splitlines()[-3:])}")
         return status == 0
 
-    def compare_reset(self, before: cxlplan.Host) -> None:
+    def compare_reset(self, before: Optional[cxlplan.Host]) -> None:
         """All regions are gone, from the registers too."""
         seen = self.seen()
         if left := committed_in(seen):
             self.tally.fault(f"still committed: {left}")
+        if before is None:
+            return
         status, text = desk("diff", before.name, seen.name)
         self.tally.diffs += 1
         if status:

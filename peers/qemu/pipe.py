@@ -78,26 +78,30 @@ def serve(bus: Bus, bench: subprocess.Popen, to: int, back: int) -> None:
 
 def run_over(peer: Peer, script: str, *image: str) -> tuple:
     """A script over QEMU's registers: the exit status, the replies, and the bus."""
-    pipes = [os.path.join(peer.folder, name) for name in ("to", "from")]
+    bus = Bus(peer)
+    status, said = run_words(peer.folder, [peer.table, peer.topology, *image], bus, script.encode())
+    return status, said.decode(), bus
+
+
+def run_words(folder: str, files: list, bus, script: bytes) -> tuple:
+    """A script over these files and a bus, with its pipes in a folder: the exit status, and the replies."""
+    pipes = [os.path.join(folder, name) for name in ("to", "from")]
     for path in pipes:
         os.mkfifo(path)
     # Opened so that neither side waits for the other: the one without waiting, the other for both directions.
     to, back = os.open(pipes[0], os.O_RDONLY | os.O_NONBLOCK), os.open(pipes[1], os.O_RDWR)
-    bus = Bus(peer)
     try:
-        with open(os.path.join(peer.folder, "script"), "w+b") as asked, \
-                open(os.path.join(peer.folder, "replies"), "w+b") as said:
-            asked.write(script.encode())
+        with open(os.path.join(folder, "script"), "w+b") as asked, open(os.path.join(folder, "replies"), "w+b") as said:
+            asked.write(script)
             asked.seek(0)
-            bench = subprocess.Popen([BENCH, peer.table, peer.topology, *image, *pipes], stdin=asked, stdout=said,
-                                     stderr=subprocess.DEVNULL)
+            bench = subprocess.Popen([BENCH, *files, *pipes], stdin=asked, stdout=said, stderr=subprocess.DEVNULL)
             try:
                 serve(bus, bench, to, back)
             finally:
                 bench.kill()
                 bench.wait()
             said.seek(0)
-            return bench.returncode, said.read().decode(), bus
+            return bench.returncode, said.read()
     finally:
         for opened in (to, back):
             os.close(opened)
