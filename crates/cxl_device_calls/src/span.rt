@@ -79,54 +79,15 @@ struct Row {
     decoder: u8,
 }
 
-/// The first and the second keep the rules.
-const KEPT: Row = Row {
-    name: "two decoders that keep the rules",
-    first: Plain::First,
-    first_changes: &[],
-    second: Plain::Second,
-    second_changes: &[],
-    rule: 0,
-    decoder: 0,
+/// The last breaks a rule; the others of its kind stand in `worked/rules`.
+const BLOCKS: &[Row] = rows! {
+    Row { name, first, first_changes, second, second_changes, rule, decoder };
+    "two decoders that keep the rules", Plain::First, &[], Plain::Second, &[], 0, 0;
+    "no decoder committed", Plain::Reset, &[], Plain::Reset, &[], 0, 0;
+    "a span up to the end of the ram", Plain::First, &[], Plain::Second, &[Change { at: TAIL_LOW, word: 0x2000_0000 }], 0, 0;
+    "a span of 512 MiB in the pmem", Plain::First, &[], Plain::Second, &[Change { at: SIZE_LOW, word: 0x2000_0000 }], 0, 0;
+    "an error before a first span behind the device", Plain::Late, &[], Plain::Second, &[Change { at: CONTROL, word: 0x1e00 }], 3, 1;
 };
-
-const BLOCKS: &[Row] = &[
-    KEPT,
-    Row {
-        name: "no decoder committed",
-        first: Plain::Reset,
-        second: Plain::Reset,
-        ..KEPT
-    },
-    Row {
-        name: "a span up to the end of the ram",
-        second_changes: &[Change {
-            at: TAIL_LOW,
-            word: 0x2000_0000,
-        }],
-        ..KEPT
-    },
-    Row {
-        name: "a span of 512 MiB in the pmem",
-        second_changes: &[Change {
-            at: SIZE_LOW,
-            word: 0x2000_0000,
-        }],
-        ..KEPT
-    },
-    // One of those that break a rule; the others stand in `worked/rules`.
-    Row {
-        name: "an error before a first span behind the device",
-        first: Plain::Late,
-        second_changes: &[Change {
-            at: CONTROL,
-            word: 0x1e00,
-        }],
-        rule: 3,
-        decoder: 1,
-        ..KEPT
-    },
-];
 
 /// A block on a device of 1 GiB of each kind breaks this first.
 fn breaks(block: &Block, rule: u8, decoder: u8) -> bool {
